@@ -1,0 +1,3 @@
+pub mod Pends
+pub mod Keeps
+pub mod Since
