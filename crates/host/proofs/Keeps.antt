@@ -15,7 +15,11 @@ use Rattle.std.specs.declared.option.Option.{Option}
 use Rattle.std.specs.declared.option.Option.the-variants.{Some, None}
 use Rattle.host.specs.declared.Stamped.{Stamped}
 use Rattle.host.specs.State.{Files, State, Command, Lawful, lawful-prop, Stamps, pends, at}
-use Rattle.host.specs.Calls.{started, stamped, placed, written}
+use Rattle.std.specs.declared.result.Result.the-variants.{Ok, Err}
+use Rattle.host.specs.declared.Ended.{Ended}
+use Rattle.host.specs.declared.Refusal.{Refusal}
+use Rattle.host.specs.Refusals.{clock-answer}
+use Rattle.host.specs.Calls.{started, stamped, placed, written, Ends}
 use Rattle.host.proofs.Pends.{small-push, distinct-push, small-cut, distinct-cut}
 
 -- a truncated `Lawful` is one
@@ -94,3 +98,12 @@ lawful-write n s f m h n64 t = record {
     small = h .small;
     distinct = h .distinct;
     room = omega (arith, h .few) }
+
+-- the edge that a poll tells is one up to 127
+pub ends-small : (n : ℕ) (s : State) (e : Ended) (t : State) → Lawful n s → Ends s e t → e .edge < 128
+ends-small n s e t h p = omega (arith, h .small (p .place) (p .within), p .edge)
+
+-- an answered clock tells that nothing was refused
+pub answered : (o : Option Refusal) (s : State) (c : ℕ) → Ok c ≡ clock-answer o s → o ≡ None
+answered None s c e = refl
+answered (Some r) s c e = let z : _≡_ {A = ℕ} 0 1 = cc in absurd (omega arith)

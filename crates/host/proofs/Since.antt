@@ -83,7 +83,7 @@ later-then s t u p q = record {
     clock = omega (arith, p .clock, q .clock);
     files = λ f. since-then (s .clock) (t .clock) (at (s .files) f) (at (t .files) f) (at (u .files) f) (p .clock) (p .files f) (q .files f) }
 
-later-start : (r : Option Refusal) (s t : State) (c : Command) → t ≡ started r s c → Later s t
+pub later-start : (r : Option Refusal) (s t : State) (c : Command) → t ≡ started r s c → Later s t
 later-start (Some r) s t c e = later-same s t e
 later-start None s t c e = later-by s t (after-none (s .files) (t .files) (s .clock) (t .clock) (ap (λ (z : State). z .files) e) (omega (arith, ap (λ (z : State). z .clock) e)))
 
@@ -91,7 +91,7 @@ later-leaves : (s : State) (outs : List ℕ) (o : Option (List ℕ)) (t : State)
 later-leaves s outs (Some ms) t h = later-by s t (after-all-wrote (s .files) (s .clock) outs ms (t .files) (t .clock) h)
 later-leaves s outs None t h = later-by s t (after-all-ruined (s .files) (s .clock) outs (t .files) (t .clock) h)
 
-later-poll : (s : State) (r : Option Ended) (t : State) → Polls s r t → Later s t
+pub later-poll : (s : State) (r : Option Ended) (t : State) → Polls s r t → Later s t
 later-poll s None t h = later-same s t (h .1)
 later-poll s (Some e) t h = later-leaves s (getD (s .pending) (h .place) no-command .outputs) (getD (s .pending) (h .place) no-command .outcome) t (h .leaves)
 
@@ -104,7 +104,7 @@ placed-fresh : (t : ℕ) (m : Option ℕ) (y : Option Stamped) → Since t y (pl
 placed-fresh t None y = tt
 placed-fresh t (Some m) y = inr (omega arith)
 
-later-write : (r : Option Refusal) (s t : State) (f : ℕ) (m : Option ℕ) → t ≡ written r s f m → Later s t
+pub later-write : (r : Option Refusal) (s t : State) (f : ℕ) (m : Option ℕ) → t ≡ written r s f m → Later s t
 later-write (Some r) s t f m e = later-same s t e
 later-write None s t f m e = later-by s t (after-set (s .files) (t .files) (s .clock) (t .clock) f (placed (s .clock + 1) m) (placed-fresh (s .clock) m) (omega (arith, ap (λ (z : State). z .clock) e)) (ap (λ (z : State). z .files) e))
 

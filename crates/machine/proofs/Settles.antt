@@ -33,10 +33,10 @@ settle-next b v u outs ms i p q e =
     ∙ subst₂ (λ (os ns : List ℕ). all-settled b (settled b v (getD outs i 0) (getD ms i 0)) (drop (i + 1) outs) (drop (i + 1) ms) ≡ all-settled b v os ns) (sym (drop-more outs i 0 p)) (sym (drop-more ms i 0 q)) refl
 
 -- the output at i gets its mark
-pub settle-more : (b : Bool) (v u : Volume) (o : Outputs) (h i m : ℕ) → i < o .count → m ≡ fnv-step h i → u ≡ settled b v (getD (o .files) i 0) m → all-settled b u (drop (i + 1) (named o)) (drop (i + 1) (marks-from (o .count) h)) ≡ all-settled b v (drop i (named o)) (drop i (marks-from (o .count) h))
-settle-more b v u o h i m l k e =
+pub settle-more : (b : Bool) (v u : Volume) (o : Outputs) (h i : ℕ) → i < o .count → u ≡ settled b v (getD (o .files) i 0) (fnv-step h i) → all-settled b u (drop (i + 1) (named o)) (drop (i + 1) (marks-from (o .count) h)) ≡ all-settled b v (drop i (named o)) (drop i (marks-from (o .count) h))
+settle-more b v u o h i l e =
     settle-next b v u (named o) (marks-from (o .count) h) i (omega (arith, length-named o)) (omega (arith, length-marks (o .count) h))
-    (e ∙ ap (λ (z : ℕ). settled b v z m) (sym (named-at o i l)) ∙ ap (settled b v (getD (named o) i 0)) (k ∙ sym (marks-at (o .count) h i l)))
+    (e ∙ ap (λ (z : ℕ). settled b v z (fnv-step h i)) (sym (named-at o i l)) ∙ ap (settled b v (getD (named o) i 0)) (sym (marks-at (o .count) h i l)))
 
 -- no output is left
 pub settle-all : (b : Bool) (v : Volume) (o : Outputs) (ms : List ℕ) (i : ℕ) → o .count ≤ i → all-settled b v (drop i (named o)) ms ≡ v

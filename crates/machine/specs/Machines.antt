@@ -12,6 +12,10 @@ use Rattle.machine.specs.Pendings.{state-from}
 abbrev pub state-of : Machine → State
 state-of m = state-from (vec-items (m .disk .files)) (m .disk .clock) (vec-items (m .pending))
 
+-- how many commands it takes at once
+abbrev pub capacity-of : Machine → ℕ
+capacity-of m = m .capacity
+
 -- no files, clock 0, nothing pending
 abbrev pub fresh : State
 fresh = record { files = replicate 256 None; clock = 0; pending = [] }

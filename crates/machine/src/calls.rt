@@ -16,7 +16,7 @@ ghost use Rattle.host.specs.Calls.{command-of, started, written, Ends, Breaks-o
 ghost use Rattle.host.specs.Refusals.{bad-start, start-refusal, write-refusal, clock-answer, tell-answer};
 ghost use Rattle.machine.specs.Fnv.{hashes};
 ghost use Rattle.machine.specs.Ends.{place-of, ending, ending-at, finished, finished-at, break-answer, broken, broken-at, broken-by};
-ghost use Rattle.machine.specs.Machines.{state-of, fresh};
+ghost use Rattle.machine.specs.Machines.{state-of, capacity-of, fresh};
 use crate::checks;
 use crate::command::Outputs;
 use crate::command::Pending;
@@ -40,7 +40,7 @@ impl Machine {
     // No files, clock 0, nothing pending; at most 64 commands may be.
     pub fn new(heap: Global, capacity: usize) -> Result<Machine, AllocError>
         ensures fresh { λ r. ⌜ made r (λ m. state-of m ≡ fresh) ⌝ }
-        ensures capacity { λ r. ⌜ made r (λ m. m .capacity ≡ min capacity 64) ⌝ }
+        ensures capacity { λ r. ⌜ made r (λ m. capacity-of m ≡ min capacity 64) ⌝ }
     {
         let capacity = capacity.min(MOST_COMMANDS);
         let disk = Disk::new(heap)?;
@@ -69,10 +69,10 @@ impl Machine {
 
     // Starts a command; accepted, the answer is the risen clock.
     pub fn start(&mut self, edge: usize, question: &[u8], reads: &[usize], outputs: &[usize]) -> Result<u32, Refusal>
-        ensures answer { λ r. ⌜ r ≡ clock-answer (start-refusal (now (self .entry) .capacity) (state-of (now (self .entry))) edge (now (question .entry)) (now (reads .entry)) (now (outputs .entry))) (state-of (now (self .entry))) ⌝ }
-        ensures after { λ _. ⌜ state-of (now (self .exit)) ≡ started (start-refusal (now (self .entry) .capacity) (state-of (now (self .entry))) edge (now (question .entry)) (now (reads .entry)) (now (outputs .entry))) (state-of (now (self .entry))) (command-of hashes (state-of (now (self .entry))) edge (now (question .entry)) (now (reads .entry)) (now (outputs .entry))) ⌝ }
+        ensures answer { λ r. ⌜ r ≡ clock-answer (start-refusal (capacity-of (now (self .entry))) (state-of (now (self .entry))) edge (now (question .entry)) (now (reads .entry)) (now (outputs .entry))) (state-of (now (self .entry))) ⌝ }
+        ensures after { λ _. ⌜ state-of (now (self .exit)) ≡ started (start-refusal (capacity-of (now (self .entry))) (state-of (now (self .entry))) edge (now (question .entry)) (now (reads .entry)) (now (outputs .entry))) (state-of (now (self .entry))) (command-of hashes (state-of (now (self .entry))) edge (now (question .entry)) (now (reads .entry)) (now (outputs .entry))) ⌝ }
         ensures kept { λ r. ⌜ (isOk r ≡ false → now (self .exit) ≡ now (self .entry)) ⌝ }
-        ensures capacity { λ _. ⌜ now (self .exit) .capacity ≡ now (self .entry) .capacity ⌝ }
+        ensures capacity { λ _. ⌜ capacity-of (now (self .exit)) ≡ capacity-of (now (self .entry)) ⌝ }
     {
         match self.refusal(edge, question, reads, outputs) {
             Some(refusal) => Err(refusal),
@@ -82,7 +82,7 @@ impl Machine {
 
     // The first refusal that fits a start.
     fn refusal(&self, edge: usize, question: &[u8], reads: &[usize], outputs: &[usize]) -> Option<Refusal>
-        ensures { λ r. ⌜ r ≡ start-refusal (now (self .entry) .capacity) (state-of (now (self .entry))) edge (now (question .entry)) (now (reads .entry)) (now (outputs .entry)) ⌝ }
+        ensures { λ r. ⌜ r ≡ start-refusal (capacity-of (now (self .entry))) (state-of (now (self .entry))) edge (now (question .entry)) (now (reads .entry)) (now (outputs .entry)) ⌝ }
     {
         if self.is_bad(edge, question, reads, outputs) {
             return Some(Refusal::BadCall);
@@ -113,14 +113,14 @@ impl Machine {
 
     // The clock rises, and the command pends with the outcome of now.
     fn admit(&mut self, edge: usize, question: &[u8], reads: &[usize], outputs: &[usize]) -> u32
-        requires { ⌜ start-refusal (now self .capacity) (state-of (now self)) edge (now question) (now reads) (now outputs) ≡ None ⌝ }
+        requires { ⌜ start-refusal (capacity-of (now self)) (state-of (now self)) edge (now question) (now reads) (now outputs) ≡ None ⌝ }
         ensures answer { λ r. ⌜ r ≡ now (self .entry) .disk .clock + 1 ⌝ }
         ensures after { λ _. ⌜ state-of (now (self .exit)) ≡ started None (state-of (now (self .entry))) (command-of hashes (state-of (now (self .entry))) edge (now (question .entry)) (now (reads .entry)) (now (outputs .entry))) ⌝ }
-        ensures capacity { λ _. ⌜ now (self .exit) .capacity ≡ now (self .entry) .capacity ⌝ }
+        ensures capacity { λ _. ⌜ capacity-of (now (self .exit)) ≡ capacity-of (now (self .entry)) ⌝ }
     {
         let hash = self.disk.hash_of(question, reads);
         let outputs = Outputs::new(outputs);
-        self.disk.clock += 1;
+        self.disk.rise();
         self.pending.push_reserved(Pending { edge, outputs, hash });
         self.disk.clock
     }
@@ -130,7 +130,7 @@ impl Machine {
         ensures answer { λ r. ⌜ r ≡ ending-at (state-of (now (self .entry))) place ⌝ }
         ensures after { λ _. ⌜ state-of (now (self .exit)) ≡ finished-at rewrites (state-of (now (self .entry))) place ⌝ }
         ensures ends { λ r. ⌜ BySome r (now (self .exit) ≡ now (self .entry)) (λ e. Ends (state-of (now (self .entry))) e (state-of (now (self .exit)))) ⌝ }
-        ensures capacity { λ _. ⌜ now (self .exit) .capacity ≡ now (self .entry) .capacity ⌝ }
+        ensures capacity { λ _. ⌜ capacity-of (now (self .exit)) ≡ capacity-of (now (self .entry)) ⌝ }
     {
         if place >= self.pending.len() {
             return None;
@@ -144,7 +144,7 @@ impl Machine {
         ensures answer { λ r. ⌜ r ≡ ending (state-of (now (self .entry))) place ⌝ }
         ensures after { λ _. ⌜ state-of (now (self .exit)) ≡ finished rewrites (state-of (now (self .entry))) place ⌝ }
         ensures ends { λ r. ⌜ Ends (state-of (now (self .entry))) r (state-of (now (self .exit))) ⌝ }
-        ensures capacity { λ _. ⌜ now (self .exit) .capacity ≡ now (self .entry) .capacity ⌝ }
+        ensures capacity { λ _. ⌜ capacity-of (now (self .exit)) ≡ capacity-of (now (self .entry)) ⌝ }
     {
         let command = self.pending.remove(place);
         self.disk.leave(&command, rewrites);
@@ -157,7 +157,7 @@ impl Machine {
         ensures after { λ _. ⌜ state-of (now (self .exit)) ≡ broken (state-of (now (self .entry))) edge ⌝ }
         ensures breaks { λ r. ⌜ Breaks-off (state-of (now (self .entry))) edge r (state-of (now (self .exit))) ⌝ }
         ensures kept { λ r. ⌜ (isOk r ≡ false → now (self .exit) ≡ now (self .entry)) ⌝ }
-        ensures capacity { λ _. ⌜ now (self .exit) .capacity ≡ now (self .entry) .capacity ⌝ }
+        ensures capacity { λ _. ⌜ capacity-of (now (self .exit)) ≡ capacity-of (now (self .entry)) ⌝ }
     {
         if edge > LAST_EDGE {
             return Err(Refusal::BadCall);
@@ -170,7 +170,7 @@ impl Machine {
         ensures answer { λ r. ⌜ r ≡ isSome (place-of (state-of (now (self .entry))) edge) ⌝ }
         ensures after { λ _. ⌜ state-of (now (self .exit)) ≡ broken-by (state-of (now (self .entry))) (place-of (state-of (now (self .entry))) edge) ⌝ }
         ensures breaks { λ r. ⌜ (edge ≤ 127 → Breaks-off (state-of (now (self .entry))) edge (Ok r) (state-of (now (self .exit)))) ⌝ }
-        ensures capacity { λ _. ⌜ now (self .exit) .capacity ≡ now (self .entry) .capacity ⌝ }
+        ensures capacity { λ _. ⌜ capacity-of (now (self .exit)) ≡ capacity-of (now (self .entry)) ⌝ }
     {
         match self.place_of(edge) {
             None => false,
@@ -185,7 +185,7 @@ impl Machine {
     fn drop_at(&mut self, place: usize)
         requires { ⌜ place < vec-len (now self .pending) ⌝ }
         ensures after { λ _. ⌜ state-of (now (self .exit)) ≡ broken-at (state-of (now (self .entry))) place ⌝ }
-        ensures capacity { λ _. ⌜ now (self .exit) .capacity ≡ now (self .entry) .capacity ⌝ }
+        ensures capacity { λ _. ⌜ capacity-of (now (self .exit)) ≡ capacity-of (now (self .entry)) ⌝ }
     {
         let command = self.pending.remove(place);
         self.disk.remove_all(&command.outputs);
@@ -196,7 +196,7 @@ impl Machine {
         ensures answer { λ r. ⌜ r ≡ clock-answer (write-refusal (state-of (now (self .entry))) file) (state-of (now (self .entry))) ⌝ }
         ensures after { λ _. ⌜ state-of (now (self .exit)) ≡ written (write-refusal (state-of (now (self .entry))) file) (state-of (now (self .entry))) file mark ⌝ }
         ensures kept { λ r. ⌜ (isOk r ≡ false → now (self .exit) ≡ now (self .entry)) ⌝ }
-        ensures capacity { λ _. ⌜ now (self .exit) .capacity ≡ now (self .entry) .capacity ⌝ }
+        ensures capacity { λ _. ⌜ capacity-of (now (self .exit)) ≡ capacity-of (now (self .entry)) ⌝ }
     {
         if file > LAST_FILE {
             return Err(Refusal::BadCall);

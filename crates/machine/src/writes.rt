@@ -10,6 +10,7 @@ ghost use Rattle.std.specs.Of.Vec.{vec-items, vec-len};
 ghost use Rattle.host.specs.State.{at};
 ghost use Rattle.host.specs.Refusals.{tell-answer};
 ghost use Rattle.host.specs.Calls.{placed};
+ghost use Rattle.machine.specs.Fnv.{fnv-step};
 ghost use Rattle.machine.specs.Ends.{Volume, settled, all-settled, all-removed, has, left-by};
 ghost use Rattle.machine.specs.Pendings.{named, marks-from, told};
 ghost use Rattle.machine.specs.Disks.{volume};
@@ -54,11 +55,19 @@ impl Disk {
         requires clock { ⌜ now self .clock < 4100000000 ⌝ }
         ensures { λ _. ⌜ volume (now (self .exit)) ≡ record { files = set (volume (now (self .entry)) .files) file (placed (now (self .entry) .clock + 1) mark); clock = now (self .entry) .clock + 1 } ⌝ }
     {
-        self.clock += 1;
+        self.rise();
         self.files[file] = match mark {
             Some(mark) => Some(Stamped { stamp: self.clock, mark }),
             None => None,
         };
+    }
+
+    // The clock rises by 1.
+    pub(crate) fn rise(&mut self)
+        requires { ⌜ now self .clock < 4100000000 ⌝ }
+        ensures { λ _. ⌜ volume (now (self .exit)) ≡ record { files = volume (now (self .entry)) .files; clock = now (self .entry) .clock + 1 } ⌝ }
+    {
+        self.clock += 1;
     }
 
     // A mark comes into a file. One that has it is left alone, unless all is rewritten.
@@ -91,9 +100,19 @@ impl Disk {
         ensures { λ _. ⌜ volume (now (self .exit)) ≡ all-settled rewrites (volume (now (self .entry))) (named (now (outputs .entry))) (marks-from (now (outputs .entry) .count) hash) ⌝ }
     {
         for i in 0..outputs.count {
-            let mark = fnv::step(hash, i as u8);
-            self.settle(outputs.files[i] as usize, mark, rewrites);
+            self.settle_at(outputs, i, hash, rewrites);
         }
+    }
+
+    // The mark of the output at a place comes into it.
+    fn settle_at(&mut self, outputs: &Outputs, place: usize, hash: u32, rewrites: bool)
+        requires place { ⌜ place < now outputs .count ⌝ }
+        requires clock { ⌜ now self .clock < 4100000000 ⌝ }
+        ensures after { λ _. ⌜ volume (now (self .exit)) ≡ settled rewrites (volume (now (self .entry))) (getD (now (outputs .entry) .files) place 0) (fnv-step hash place) ⌝ }
+        ensures clock { λ _. ⌜ now (self .exit) .clock ≤ now (self .entry) .clock + 1 ⌝ }
+    {
+        let mark = fnv::step(hash, place as u8);
+        self.settle(outputs.files[place] as usize, mark, rewrites);
     }
 
     // What a command leaves as it ends.
@@ -111,8 +130,8 @@ impl Disk {
     pub(crate) fn remove_all(&mut self, outputs: &Outputs)
         ensures { λ _. ⌜ volume (now (self .exit)) ≡ record { files = all-removed (volume (now (self .entry)) .files) (named (now (outputs .entry))); clock = now (self .entry) .clock } ⌝ }
     {
-        for i in 0..outputs.count {
-            self.files[outputs.files[i] as usize] = None;
+        for k in 0..outputs.count {
+            self.files[outputs.files[k] as usize] = None;
         }
     }
 }

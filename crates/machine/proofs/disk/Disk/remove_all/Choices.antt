@@ -6,7 +6,7 @@ use Rattle.machine.specs.Pendings.{named}
 use Rattle.machine.proofs.disk.Disk.remove_all.Given as given
 
 -- what is left to remove gives all of it
-abbrev pub Inv-loop-i : given.InvT-loop-i
-Inv-loop-i l =
-    (all-removed (vec-items (l .self .files)) (drop (l .i) (named (l .outputs))) ≡ all-removed (vec-items (l .entry .self .files)) (named (l .outputs)))
+abbrev pub Inv-loop-k : given.InvT-loop-k
+Inv-loop-k l =
+    (all-removed (vec-items (l .self .files)) (drop (l .k) (named (l .outputs))) ≡ all-removed (vec-items (l .entry .self .files)) (named (l .outputs)))
     × (l .self .clock ≡ l .entry .self .clock)

@@ -8,8 +8,8 @@ use lib.ListN.{drop}
 
 pub loop-i-again : need.loop-i-again
 loop-i-again c =
-    let w = c .settle .ensures in
-    (settle-more (c .args .rewrites) (volume (c .loop-i .self)) (volume (c .settle .last .self)) (c .args .outputs .now) (c .args .hash) (c .loop-i .i) _ (c .loop-i-test .taken) (c .step-mark .ensures) (w .after) ∙ c .loop-i .inv .0,
+    let w = c .settle-at .ensures in
+    (settle-more (c .args .rewrites) (volume (c .loop-i .self)) (volume (c .settle-at .last .self)) (c .args .outputs .now) (c .args .hash) (c .loop-i .i) (c .loop-i-test .taken) (w .after) ∙ c .loop-i .inv .0,
      omega (arith, w .clock, c .loop-i .inv .1))
 
 pub returns : need.returns
