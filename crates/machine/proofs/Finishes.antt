@@ -6,9 +6,9 @@ use mathlib.Core.Logic.{_⊎_, inl, inr}
 use Prim.Native.Nat.{ℕ, suc, _+_, _-_, _<_, _≤_}
 use native.Mathlib.Omega.{arith}
 use lib.ListN.{length, getD, set, take, drop}
-use lib.Dec.{eqb}
+use lib.Dec.{eqb, ltb}
 use Rattle.std.proofs.shelf.Lists.{length-set, length-map, map-append, take-map, drop-map, getD-map, getD-read}
-use Rattle.std.proofs.shelf.Tests.{cases-bool, cond-true, cond-false, and-parts, eqb-true}
+use Rattle.std.proofs.shelf.Tests.{cases-bool, cond-true, cond-false, and-parts, eqb-true, lt-ltb}
 use Rattle.std.specs.Holes.{removed}
 use Rattle.std.specs.Options.{isSome, mapped}
 use Rattle.std.specs.declared.option.Option.{Option}
@@ -20,7 +20,7 @@ use Rattle.host.specs.State.{Files, State, Command, Lawful, Stamps, at, no-comm
 use Rattle.host.specs.Calls.{stamped, Holds, Wrote, All-wrote, All-ruined, Leaves, Ends, Breaks, Breaks-off}
 use Rattle.host.proofs.Keeps.{held, stamps-set, stamps-gone, lawful-cut}
 use Rattle.machine.specs.declared.command.Pending.{Pending}
-use Rattle.machine.specs.Ends.{Volume, has, settled, all-settled, all-removed, left-by, volume-of, without, finished, broken-at, ending, place-of}
+use Rattle.machine.specs.Ends.{Volume, has, settled, all-settled, all-removed, left-by, volume-of, without, finished, broken-at, ending, place-of, edge-in}
 use Rattle.machine.specs.Pendings.{told, named, marks-from, state-from}
 use Rattle.machine.proofs.Places.{place-from-some, place-from-found}
 use Rattle.machine.proofs.Settles.{length-named, length-marks}
@@ -79,6 +79,11 @@ all-removed-ruined fs t (f ∷ outs) = (set fs f None, t, inr (inl (refl, refl))
 -- the command at a place, as the host means it
 pub told-at : (ps : List Pending) (k : ℕ) (p : Pending) → k < length ps → p ≡ getD ps k p → getD (map told ps) k no-command ≡ told p
 told-at ps k p l e = getD-map told ps k p no-command l ∙ ap told (sym e)
+
+pub edge-is : (ps : List Pending) (k : ℕ) (p : Pending) → k < length ps → p ≡ getD ps k p → Some (getD ps k p .edge) ≡ edge-in (map told ps) k
+edge-is ps k p l e =
+    ap (λ (q : Pending). Some (q .edge)) (sym e) ∙ ap (λ (c : Command). Some (c .edge)) (sym (told-at ps k p l e))
+    ∙ sym (cond-true (ltb k (length (map told ps))) (Some (getD (map told ps) k no-command .edge)) None (lt-ltb k (length (map told ps)) (omega (arith, length-map ps told))))
 
 map-removed : (ps : List Pending) (k : ℕ) → map told (removed ps k) ≡ removed (map told ps) k
 map-removed ps k = map-append told (take k ps) (drop (suc k) ps) ∙ ap (λ (z : List Command). z ++ map told (drop (suc k) ps)) (sym (take-map told k ps)) ∙ ap (λ (z : List Command). take k (map told ps) ++ z) (sym (drop-map told (suc k) ps))

@@ -69,6 +69,13 @@ broken-at s k = without s k (left-by false (volume-of s) (getD (s .pending) k no
 abbrev pub ending : State → ℕ → Ended
 ending s k = record { edge = getD (s .pending) k no-command .edge; good = isSome (getD (s .pending) k no-command .outcome) }
 
+-- the edge of the command at a place, if there is one
+abbrev pub edge-in : List Command → ℕ → Option ℕ
+edge-in cs k = cond (ltb k (length cs)) (Some (getD cs k no-command .edge)) None
+
+abbrev pub edge-here : State → ℕ → Option ℕ
+edge-here s k = edge-in (s .pending) k
+
 -- the place of the command of an edge, counted from i on
 abbrev pub place-from : ℕ → List Command → ℕ → Option ℕ
 place-from i [] e = None

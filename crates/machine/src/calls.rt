@@ -15,7 +15,7 @@ ghost use Rattle.host.specs.State.{pends, edge-at};
 ghost use Rattle.host.specs.Calls.{command-of, started, written, Ends, Breaks-off};
 ghost use Rattle.host.specs.Refusals.{bad-start, start-refusal, write-refusal, clock-answer, tell-answer};
 ghost use Rattle.machine.specs.Fnv.{hashes};
-ghost use Rattle.machine.specs.Ends.{place-of, ending, ending-at, finished, finished-at, break-answer, broken, broken-at, broken-by};
+ghost use Rattle.machine.specs.Ends.{edge-here, place-of, ending, ending-at, finished, finished-at, break-answer, broken, broken-at, broken-by};
 ghost use Rattle.machine.specs.Machines.{state-of, capacity-of, fresh};
 use crate::checks;
 use crate::command::Outputs;
@@ -65,6 +65,20 @@ impl Machine {
         ensures { λ r. ⌜ r ≡ place-of (state-of (now (self .entry))) edge ⌝ }
     {
         checks::place_in(&self.pending, edge)
+    }
+
+    // How many commands are pending.
+    pub fn pending_len(&self) -> usize
+        ensures { λ r. ⌜ r ≡ length (state-of (now (self .entry)) .pending) ⌝ }
+    {
+        self.pending.len()
+    }
+
+    // The edge of the pending command at a place.
+    pub fn edge_at(&self, place: usize) -> Option<usize>
+        ensures { λ r. ⌜ r ≡ edge-here (state-of (now (self .entry))) place ⌝ }
+    {
+        checks::edge_in(&self.pending, place)
     }
 
     // Starts a command; accepted, the answer is the risen clock.

@@ -7,7 +7,7 @@ ghost use Rattle.std.specs.Options.{isSome};
 ghost use Rattle.host.specs.State.{pends};
 ghost use Rattle.host.specs.Refusals.{holds-number, repeats, strays};
 ghost use Rattle.machine.specs.Pendings.{told};
-ghost use Rattle.machine.specs.Ends.{place-from};
+ghost use Rattle.machine.specs.Ends.{edge-in, place-from};
 use crate::command::Pending;
 
 // The place of the edge's command.
@@ -20,6 +20,16 @@ pub(crate) fn place_in(pending: &[Pending], edge: usize) -> Option<usize>
         }
     }
     None
+}
+
+// The edge of the command at a place.
+pub(crate) fn edge_in(pending: &[Pending], place: usize) -> Option<usize>
+    ensures { λ r. ⌜ r ≡ edge-in (map told (now (pending .entry))) place ⌝ }
+{
+    if place >= pending.len() {
+        return None;
+    }
+    Some(pending[place].edge)
 }
 
 // Whether a command of the edge is pending.

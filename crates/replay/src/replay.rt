@@ -1,0 +1,15 @@
+// A replay: a machine, and the endings of a recording that are not yet dropped.
+ghost use mathlib.Core.Path.{_≡_};
+ghost use Prim.Native.Nat.{_≤_};
+ghost use Rattle.std.specs.Of.Vec.{vec-len};
+ghost use Rattle.machine.specs.Machines.{capacity-of};
+use machine::Machine;
+
+#[derive(Drop)]
+pub struct Replay {
+    pub(crate) machine: Machine,
+    pub(crate) endings: Vec<u8>,
+    pub(crate) from: usize,
+    ghost capacity: { capacity-of machine ≡ 8 },
+    ghost within: { from ≤ vec-len endings },
+}
