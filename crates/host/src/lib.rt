@@ -74,7 +74,7 @@ pub trait Host: FileView {
 
     law lawful: { (h : Self) → Lawful capacity (state h) };
 
-    law one_each: { (question reads marks : List ℕ) (n : ℕ) → makes question reads n ≡ Some marks → length marks ≡ n };
+    law each: { (question reads marks : List ℕ) (n : ℕ) → makes question reads n ≡ Some marks → length marks ≡ n };
 
     // CAPACITY, where clauses can speak of it.
     fn capacity_of() -> usize

@@ -63,3 +63,9 @@ fails-is (a ∷ b ∷ c ∷ d ∷ r) =
   and-true : (x : Bool) → (x && true) ≡ x
   and-true true = refl
   and-true false = refl
+
+pub text-short : (q : List ℕ) → length (command-text q) ≤ length q
+text-short [] = omega arith
+text-short (b ∷ q) = elim (cases-bool (eqb b 0)) [
+    inl a ↦ omega (arith, ap length (cond-true (eqb b 0) [] (b ∷ command-text q) a))
+  | inr n ↦ omega (arith, ap length (cond-false (eqb b 0) [] (b ∷ command-text q) n), text-short q) ]

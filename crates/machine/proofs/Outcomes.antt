@@ -9,6 +9,8 @@ use Rattle.std.specs.Iters.{counting}
 use Rattle.std.specs.Joined.{joined}
 use Rattle.std.specs.Options.{mapped}
 use Rattle.std.proofs.shelf.Lists.{at-drop-more, at-drop-all}
+use native.Mathlib.Omega.{arith}
+use Rattle.std.proofs.shelf.Counted.{length-map-counting}
 use Rattle.std.proofs.shelf.Tests.{cases-bool, cond-true, cond-false}
 use Rattle.std.specs.declared.option.Option.{Option}
 use Rattle.std.specs.declared.option.Option.the-variants.{Some, None}
@@ -66,3 +68,15 @@ pub outcome-kept : (fs : Files) (q rs : List ℕ) (n : ℕ) → mapped (marks-fr
 outcome-kept fs q rs n = elim (cases-bool (fails q)) [
     inl a ↦ ap (mapped (marks-from n)) (cond-true (fails q) None (hash-from fs (fnv-1a q) rs) a) ∙ failed q n (marks fs rs) a
   | inr b ↦ ap (mapped (marks-from n)) (cond-false (fails q) None (hash-from fs (fnv-1a q) rs) b ∙ hash-marks fs (fnv-1a q) rs) ∙ fine q n (marks fs rs) b ]
+
+some-list : (xs ys : List ℕ) → _≡_ {A = Option (List ℕ)} (Some xs) (Some ys) → xs ≡ ys
+some-list xs ys e = cc
+
+none-list : (ys : List ℕ) → _≡_ {A = Option (List ℕ)} None (Some ys) → ⊥
+none-list ys e = let z : _≡_ {A = ℕ} 0 1 = cc in omega arith
+
+-- a question that does not fail has one mark for each output
+pub hashes-each : (q rs ms : List ℕ) (n : ℕ) → hashes q rs n ≡ Some ms → length ms ≡ n
+hashes-each q rs ms n h = elim (cases-bool (fails q)) [
+    inl a ↦ absurd (none-list ms (sym (cond-true (fails q) None (Some (map (mark-of q rs) (counting 0 n))) a) ∙ h))
+  | inr b ↦ ap length (sym (some-list _ ms (sym (cond-false (fails q) None (Some (map (mark-of q rs) (counting 0 n))) b) ∙ h))) ∙ length-map-counting (mark-of q rs) 0 n ]

@@ -1,0 +1,3 @@
+pub mod Timed
+pub mod Same
+pub mod Exact

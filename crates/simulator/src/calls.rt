@@ -91,10 +91,13 @@ impl Simulator {
         if edge > LAST_EDGE {
             return Err(Refusal::BadCall);
         }
-        if let Some(place) = self.machine.place_of(edge) {
-            let _ = self.dues.remove(place);
+        match self.machine.place_of(edge) {
+            None => Ok(false),
+            Some(place) => {
+                let _ = self.dues.remove(place);
+                self.machine.break_off(edge)
+            }
         }
-        self.machine.break_off(edge)
     }
 
     // A write from outside, on the machine.
