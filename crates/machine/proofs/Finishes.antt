@@ -10,7 +10,7 @@ use lib.Dec.{eqb, ltb}
 use Rattle.std.proofs.shelf.Lists.{length-set, length-map, map-append, take-map, drop-map, getD-map, getD-read}
 use Rattle.std.proofs.shelf.Tests.{cases-bool, cond-true, cond-false, and-parts, eqb-true, lt-ltb}
 use Rattle.std.specs.Holes.{removed}
-use Rattle.std.specs.Options.{isSome, mapped}
+use Rattle.std.specs.Options.{isSome, mapped, Cases as BySome}
 use Rattle.std.specs.declared.option.Option.{Option}
 use Rattle.std.specs.declared.option.Option.the-variants.{Some, None}
 use Rattle.std.specs.declared.result.Result.the-variants.{Ok}
@@ -20,7 +20,7 @@ use Rattle.host.specs.State.{Files, State, Command, Lawful, Stamps, at, no-comm
 use Rattle.host.specs.Calls.{stamped, Holds, Wrote, All-wrote, All-ruined, Leaves, Ends, Breaks, Breaks-off}
 use Rattle.host.proofs.Keeps.{held, stamps-set, stamps-gone, lawful-cut}
 use Rattle.machine.specs.declared.command.Pending.{Pending}
-use Rattle.machine.specs.Ends.{Volume, has, settled, all-settled, all-removed, left-by, volume-of, without, finished, broken-at, ending, place-of, edge-in}
+use Rattle.machine.specs.Ends.{Volume, has, settled, all-settled, all-removed, left-by, volume-of, without, finished, broken-at, ending, place-of, edge-in, finished-at, ending-at}
 use Rattle.machine.specs.Pendings.{told, named, marks-from, state-from}
 use Rattle.machine.proofs.Places.{place-from-some, place-from-found}
 use Rattle.machine.proofs.Settles.{length-named, length-marks}
@@ -160,3 +160,13 @@ breaks-some fs u ps t e k h q l =
 
 pub found-within : (s : State) (e k : ℕ) → Some k ≡ place-of s e → k < length (s .pending)
 found-within s e k h = omega (arith, place-from-found 0 (s .pending) e k (sym h) .1)
+
+-- the command at a place has ended
+pub end-state : (b : Bool) (s : State) (k : ℕ) (h : State) → k < length (s .pending) → h ≡ finished-at b s k → h ≡ finished b s k
+end-state b s k h l e = e ∙ cond-true (ltb k (length (s .pending))) (finished b s k) s (lt-ltb k (length (s .pending)) l)
+
+pub ending-is : (s : State) (k : ℕ) → k < length (s .pending) → ending-at s k ≡ Some (ending s k)
+ending-is s k l = cond-true (ltb k (length (s .pending))) (Some (ending s k)) None (lt-ltb k (length (s .pending)) l)
+
+pub finish-ends : (P : Type 0) (r : Option Ended) (s t : State) (k : ℕ) → k < length (s .pending) → r ≡ ending-at s k → BySome r P (λ (e : Ended). Ends s e t) → Ends s (ending s k) t
+finish-ends P r s t k l e h = subst (λ (z : Option Ended). BySome z P (λ (x : Ended). Ends s x t)) (e ∙ ending-is s k l) h

@@ -42,6 +42,9 @@ new-lawful n v ps e q = ∣ subst (Lawful n) (sym (ap (λ (z : Volume). state-on
 pub write-lawful : (n : ℕ) (v u : Volume) (ps : List Pending) (f : ℕ) (m : Option ℕ) → u ≡ record { files = set (v .files) f (placed (v .clock + 1) m); clock = v .clock + 1 } → ∥ Lawful n (state-on v ps) ∥₁ → n ≤ 64 → v .clock ≤ 4000000000 → ∥ Lawful n (state-on u ps) ∥₁
 write-lawful n v u ps f m e ok small t = ∣ subst (Lawful n) (sym (ap (λ (z : Volume). state-on z ps) e)) (lawful-write n (state-on v ps) f m (held ok) small t) ∣₁
 
+pub write-clock : (v u : Volume) (f : ℕ) (m : Option ℕ) → u ≡ record { files = set (v .files) f (placed (v .clock + 1) m); clock = v .clock + 1 } → u .clock ≡ v .clock + 1
+write-clock v u f m e = ap (λ (z : Volume). z .clock) e
+
 -- what an accepted start may count on
 pub record Accepted (n : ℕ) (s : State) (e : ℕ) (q : List ℕ) : Type 0 where
   pub edge : e ≤ 127

@@ -57,7 +57,7 @@ impl Machine {
     pub fn clock(&self) -> u32
         ensures { λ r. ⌜ r ≡ state-of (now (self .entry)) .clock ⌝ }
     {
-        self.disk.clock
+        self.disk.time()
     }
 
     // The place of the edge's pending command.
@@ -101,7 +101,7 @@ impl Machine {
         if self.is_bad(edge, question, reads, outputs) {
             return Some(Refusal::BadCall);
         }
-        if self.pending.len() >= self.capacity {
+        if self.pending_len() >= self.capacity {
             return Some(Refusal::Busy);
         }
         if self.disk.clock > LAST_CLOCK {
@@ -146,7 +146,7 @@ impl Machine {
         ensures ends { λ r. ⌜ BySome r (now (self .exit) ≡ now (self .entry)) (λ e. Ends (state-of (now (self .entry))) e (state-of (now (self .exit)))) ⌝ }
         ensures capacity { λ _. ⌜ capacity-of (now (self .exit)) ≡ capacity-of (now (self .entry)) ⌝ }
     {
-        if place >= self.pending.len() {
+        if place >= self.pending_len() {
             return None;
         }
         Some(self.end_at(place, rewrites))
@@ -218,8 +218,19 @@ impl Machine {
         if self.disk.clock > LAST_CLOCK {
             return Err(Refusal::ClockSpent);
         }
+        Ok(self.put(file, mark))
+    }
+
+    // The clock rises, and the file gets the mark or is removed; the answer is the risen clock.
+    fn put(&mut self, file: usize, mark: Option<u32>) -> u32
+        requires file { ⌜ file < 256 ⌝ }
+        requires clock { ⌜ now self .disk .clock ≤ 4000000000 ⌝ }
+        ensures answer { λ r. ⌜ r ≡ now (self .entry) .disk .clock + 1 ⌝ }
+        ensures after { λ _. ⌜ state-of (now (self .exit)) ≡ written None (state-of (now (self .entry))) file mark ⌝ }
+        ensures capacity { λ _. ⌜ capacity-of (now (self .exit)) ≡ capacity-of (now (self .entry)) ⌝ }
+    {
         self.disk.place(file, mark);
-        Ok(self.disk.clock)
+        self.disk.clock
     }
 }
 

@@ -45,6 +45,13 @@ pub(crate) fn is_failing(question: &[u8]) -> bool
 pub fn command_len(question: &[u8]) -> usize
     ensures { λ r. ⌜ r ≡ length (command-text (now (question .entry))) ⌝ }
 {
+    first_zero(question)
+}
+
+// The place of the first byte 0; the length where there is none.
+fn first_zero(question: &[u8]) -> usize
+    ensures { λ r. ⌜ r ≡ length (command-text (now (question .entry))) ⌝ }
+{
     for (i, b) in question.iter().enumerate() {
         if *b == 0 {
             return i;

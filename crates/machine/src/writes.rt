@@ -42,6 +42,12 @@ impl Disk {
         Ok(self.files[file])
     }
 
+    pub(crate) fn time(&self) -> u32
+        ensures { λ r. ⌜ r ≡ volume (now (self .entry)) .clock ⌝ }
+    {
+        self.clock
+    }
+
     // What stands at a file number; past the last file it is absent.
     pub(crate) fn look(&self, file: usize) -> Option<Stamped>
         ensures { λ r. ⌜ r ≡ at (vec-items (now (self .entry) .files)) file ⌝ }

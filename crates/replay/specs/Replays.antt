@@ -22,6 +22,10 @@ pub record Rep : Type 0 where
 abbrev pub turns : Rep → List Turn
 turns r = map (λ c. turn-of (r .left) (c .edge)) (r .host .pending)
 
+-- the turn of the pending command at a place
+abbrev pub turn-at : Rep → ℕ → Turn
+turn-at r k = turn-of (r .left) (getD (r .host .pending) k no-command .edge)
+
 -- the place of the command that ends next
 abbrev pub next-place : Rep → Option ℕ
 next-place r = earliest-place by-place (turns r)
@@ -29,7 +33,7 @@ next-place r = earliest-place by-place (turns r)
 -- the command at a place ends, its marks always written; the endings through its own are dropped, none where it has none
 abbrev pub rep-ended : Bool → Rep → ℕ → Rep
 rep-ended rewrites r k =
-    record { host = finished rewrites (r .host) k; left = left-after (r .left) (turn-of (r .left) (getD (r .host .pending) k no-command .edge) .place) }
+    record { host = finished rewrites (r .host) k; left = left-after (r .left) (turn-at r k .place) }
 
 abbrev pub rep-polled : Rep → Option ℕ → Rep
 rep-polled r None = r

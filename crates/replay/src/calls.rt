@@ -13,88 +13,83 @@ ghost use Rattle.host.specs.Calls.{command-of, started, written, Polls, Ends, B
 ghost use Rattle.host.specs.Refusals.{start-refusal, write-refusal, clock-answer, tell-answer};
 ghost use Rattle.machine.specs.Fnv.{hashes};
 ghost use Rattle.machine.specs.Ends.{ending, break-answer, broken};
-ghost use Rattle.machine.specs.Machines.{fresh};
-ghost use Rattle.replay.specs.declared.recording.Fault.the-variants.{Malformed, Memory};
-ghost use Rattle.replay.specs.Turns.{turn-of, next-from, endings-of};
-ghost use Rattle.replay.specs.Replays.{next-place, rep-ended, rep-polled, rep-answer, Turn-first};
-ghost use Rattle.replay.specs.Meaning.{rep-of, host-of, Began};
-use crate::recording;
-use crate::recording::Fault;
-use crate::recording::FaultFromAlloc;
+ghost use Rattle.replay.specs.Turns.{left-after};
+ghost use Rattle.replay.specs.Replays.{turn-at, next-place, rep-ended, rep-polled, rep-answer, Turn-first};
+ghost use Rattle.replay.specs.Meaning.{rep-of, host-of};
+use crate::replay::CAPACITY;
 use crate::replay::Replay;
-use crate::turn::Turn;
-use crate::turn::TurnOrdered;
 use host::Ended;
 use host::FileView;
 use host::Host;
 use host::Refusal;
 use host::Stamped;
-use machine::Machine;
-use order::earliest;
-use std::alloc::Global;
-
-const CAPACITY: usize = 8;
 
 impl Replay {
-    // No files, clock 0, all endings of the recording left; a recording of another form is malformed.
-    pub fn new(heap: Global, recording: &[u8]) -> Result<Replay, Fault>
-        ensures { λ r. ⌜ Began r (endings-of (now (recording .entry))) ⌝ }
+    // Starts a command on the machine.
+    fn launch(&mut self, edge: usize, question: &[u8], reads: &[usize], outputs: &[usize]) -> Result<u32, Refusal>
+        ensures answer { λ r. ⌜ r ≡ clock-answer (start-refusal 8 (host-of (now (self .entry))) edge (now (question .entry)) (now (reads .entry)) (now (outputs .entry))) (host-of (now (self .entry))) ⌝ }
+        ensures after { λ _. ⌜ host-of (now (self .exit)) ≡ started (start-refusal 8 (host-of (now (self .entry))) edge (now (question .entry)) (now (reads .entry)) (now (outputs .entry))) (host-of (now (self .entry))) (command-of hashes (host-of (now (self .entry))) edge (now (question .entry)) (now (reads .entry)) (now (outputs .entry))) ⌝ }
+        ensures left { λ _. ⌜ rep-of (now (self .exit)) .left ≡ rep-of (now (self .entry)) .left ⌝ }
+        ensures kept { λ r. ⌜ (isOk r ≡ false → now (self .exit) ≡ now (self .entry)) ⌝ }
     {
-        let Some(endings) = recording::endings(recording) else {
-            return Err(Fault::Malformed);
-        };
-        let endings = Vec::from_slice(heap, endings)?;
-        let machine = Machine::new(heap, CAPACITY)?;
-        Ok(Replay { machine, endings, from: 0 })
-    }
-
-    // The endings that are left, the next one first.
-    pub fn endings_left(&self) -> &[u8]
-        ensures { λ r. ⌜ now r ≡ rep-of (now (self .entry)) .left ⌝ }
-    {
-        &self.endings[self.from..]
-    }
-
-    // The place of the command that ends next.
-    fn next_place(&self) -> Option<usize>
-        ensures { λ r. ⌜ r ≡ next-place (rep-of (now (self .entry))) ⌝ }
-    {
-        let mut turns = [Turn { place: 0, edge: 0 }; CAPACITY];
-        let count = self.machine.pending_len();
-        for k in 0..count {
-            turns[k] = self.turn_at(k);
-        }
-        earliest(&turns[0..count])
-    }
-
-    // The turn of the pending command at a place.
-    fn turn_at(&self, place: usize) -> Turn {
-        match self.machine.edge_at(place) {
-            Some(edge) => Turn { place: next_ending(self.endings_left(), edge), edge },
-            None => Turn { place: 0, edge: 0 },
-        }
+        self.machine.start(edge, question, reads, outputs)
     }
 
     // Ends the command at a place, and drops the endings through its own.
-    fn end_at(&mut self, place: usize, rewrites: bool) -> Option<Ended> {
-        let at = self.turn_at(place).place;
-        if at < self.endings.len() - self.from {
-            self.from += at + 1;
-        }
+    fn end_at(&mut self, place: usize, rewrites: bool) -> Option<Ended>
+        requires { ⌜ place < length (host-of (now self) .pending) ⌝ }
+        ensures answer { λ r. ⌜ r ≡ Some (ending (host-of (now (self .entry))) place) ⌝ }
+        ensures after { λ _. ⌜ rep-of (now (self .exit)) ≡ rep-ended rewrites (rep-of (now (self .entry))) place ⌝ }
+        ensures ends { λ _. ⌜ Ends (host-of (now (self .entry))) (ending (host-of (now (self .entry))) place) (host-of (now (self .exit))) ⌝ }
+        ensures small { λ _. ⌜ ending (host-of (now (self .entry))) place .edge < 128 ⌝ }
+    {
+        self.drop_endings(place);
         self.machine.finish(place, rewrites)
     }
-}
 
-// The place of the edge's next ending; past the last where it has none.
-fn next_ending(endings: &[u8], edge: usize) -> usize
-    ensures { λ r. ⌜ r ≡ next-from 0 (now (endings .entry)) edge ⌝ }
-{
-    for (i, e) in endings.iter().enumerate() {
-        if *e as usize == edge {
-            return i;
+    // Drops the endings through that of the command at a place; none where it has none.
+    fn drop_endings(&mut self, place: usize)
+        requires { ⌜ place < length (host-of (now self) .pending) ⌝ }
+        ensures machine { λ _. ⌜ now (self .exit) .machine ≡ now (self .entry) .machine ⌝ }
+        ensures left { λ _. ⌜ rep-of (now (self .exit)) .left ≡ left-after (rep-of (now (self .entry)) .left) (turn-at (rep-of (now (self .entry))) place .place) ⌝ }
+    {
+        self.from = self.from_after(place);
+    }
+
+    // Where the endings that are left begin once the command at a place has ended.
+    fn from_after(&self, place: usize) -> usize
+        requires { ⌜ place < length (host-of (now self) .pending) ⌝ }
+        ensures within { λ r. ⌜ r ≤ vec-len (now (self .entry) .endings) ⌝ }
+        ensures left { λ r. ⌜ drop r (vec-items (now (self .entry) .endings)) ≡ left-after (rep-of (now (self .entry)) .left) (turn-at (rep-of (now (self .entry))) place .place) ⌝ }
+    {
+        let ending = self.turn_at(place).place;
+        if ending < self.endings.len() - self.from {
+            self.from + ending + 1
+        } else {
+            self.from
         }
     }
-    endings.len()
+
+    // Breaks the edge's command off.
+    fn drop_of(&mut self, edge: usize) -> Result<bool, Refusal>
+        ensures breaks { λ r. ⌜ Breaks-off (host-of (now (self .entry))) edge r (host-of (now (self .exit))) ⌝ }
+        ensures answer { λ r. ⌜ r ≡ break-answer (host-of (now (self .entry))) edge ⌝ }
+        ensures after { λ _. ⌜ host-of (now (self .exit)) ≡ broken (host-of (now (self .entry))) edge ⌝ }
+        ensures left { λ _. ⌜ rep-of (now (self .exit)) .left ≡ rep-of (now (self .entry)) .left ⌝ }
+        ensures kept { λ r. ⌜ (isOk r ≡ false → now (self .exit) ≡ now (self .entry)) ⌝ }
+    {
+        self.machine.break_off(edge)
+    }
+
+    // A write from outside, on the machine.
+    fn put(&mut self, file: usize, mark: Option<u32>) -> Result<u32, Refusal>
+        ensures answer { λ r. ⌜ r ≡ clock-answer (write-refusal (host-of (now (self .entry))) file) (host-of (now (self .entry))) ⌝ }
+        ensures after { λ _. ⌜ host-of (now (self .exit)) ≡ written (write-refusal (host-of (now (self .entry))) file) (host-of (now (self .entry))) file mark ⌝ }
+        ensures left { λ _. ⌜ rep-of (now (self .exit)) .left ≡ rep-of (now (self .entry)) .left ⌝ }
+        ensures kept { λ r. ⌜ (isOk r ≡ false → now (self .exit) ≡ now (self .entry)) ⌝ }
+    {
+        self.machine.outside_write(file, mark)
+    }
 }
 
 pub impl FileView for Replay as ReplayView {
@@ -122,22 +117,44 @@ pub impl Host for Replay as ReplayHost {
         self.machine.clock()
     }
 
-    fn start(&mut self, edge: usize, question: &[u8], reads: &[usize], outputs: &[usize]) -> Result<u32, Refusal> {
-        self.machine.start(edge, question, reads, outputs)
+    fn start(&mut self, edge: usize, question: &[u8], reads: &[usize], outputs: &[usize]) -> Result<u32, Refusal>
+        ensures answer { λ r. ⌜ r ≡ clock-answer (start-refusal 8 (host-of (now (self .entry))) edge (now (question .entry)) (now (reads .entry)) (now (outputs .entry))) (host-of (now (self .entry))) ⌝ }
+        ensures after { λ _. ⌜ host-of (now (self .exit)) ≡ started (start-refusal 8 (host-of (now (self .entry))) edge (now (question .entry)) (now (reads .entry)) (now (outputs .entry))) (host-of (now (self .entry))) (command-of hashes (host-of (now (self .entry))) edge (now (question .entry)) (now (reads .entry)) (now (outputs .entry))) ⌝ }
+        ensures left { λ _. ⌜ rep-of (now (self .exit)) .left ≡ rep-of (now (self .entry)) .left ⌝ }
+        ensures kept { λ r. ⌜ (isOk r ≡ false → now (self .exit) ≡ now (self .entry)) ⌝ }
+    {
+        self.launch(edge, question, reads, outputs)
     }
 
-    fn poll(&mut self) -> Option<Ended> {
+    fn poll(&mut self) -> Option<Ended>
+        ensures polls { λ r. ⌜ Polls (host-of (now (self .entry))) r (host-of (now (self .exit))) ⌝ }
+        ensures small { λ r. ⌜ BySome r (now (self .exit) ≡ now (self .entry)) (λ e. e .edge < 128) ⌝ }
+        ensures answer { λ r. ⌜ r ≡ rep-answer (rep-of (now (self .entry))) (next-place (rep-of (now (self .entry)))) ⌝ }
+        ensures exact { λ _. ⌜ rep-of (now (self .exit)) ≡ rep-polled (rep-of (now (self .entry))) (next-place (rep-of (now (self .entry)))) ⌝ }
+        ensures first { λ r. ⌜ BySome r (Unit {0}) (λ e. Turn-first (rep-of (now (self .entry))) e) ⌝ }
+    {
         match self.next_place() {
             None => None,
             Some(place) => self.end_at(place, true),
         }
     }
 
-    fn break_off(&mut self, edge: usize) -> Result<bool, Refusal> {
-        self.machine.break_off(edge)
+    fn break_off(&mut self, edge: usize) -> Result<bool, Refusal>
+        ensures breaks { λ r. ⌜ Breaks-off (host-of (now (self .entry))) edge r (host-of (now (self .exit))) ⌝ }
+        ensures answer { λ r. ⌜ r ≡ break-answer (host-of (now (self .entry))) edge ⌝ }
+        ensures after { λ _. ⌜ host-of (now (self .exit)) ≡ broken (host-of (now (self .entry))) edge ⌝ }
+        ensures left { λ _. ⌜ rep-of (now (self .exit)) .left ≡ rep-of (now (self .entry)) .left ⌝ }
+        ensures kept { λ r. ⌜ (isOk r ≡ false → now (self .exit) ≡ now (self .entry)) ⌝ }
+    {
+        self.drop_of(edge)
     }
 
-    fn outside_write(&mut self, file: usize, mark: Option<u32>) -> Result<u32, Refusal> {
-        self.machine.outside_write(file, mark)
+    fn outside_write(&mut self, file: usize, mark: Option<u32>) -> Result<u32, Refusal>
+        ensures answer { λ r. ⌜ r ≡ clock-answer (write-refusal (host-of (now (self .entry))) file) (host-of (now (self .entry))) ⌝ }
+        ensures after { λ _. ⌜ host-of (now (self .exit)) ≡ written (write-refusal (host-of (now (self .entry))) file) (host-of (now (self .entry))) file mark ⌝ }
+        ensures left { λ _. ⌜ rep-of (now (self .exit)) .left ≡ rep-of (now (self .entry)) .left ⌝ }
+        ensures kept { λ r. ⌜ (isOk r ≡ false → now (self .exit) ≡ now (self .entry)) ⌝ }
+    {
+        self.put(file, mark)
     }
 }

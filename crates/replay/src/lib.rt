@@ -1,5 +1,6 @@
 // A machine along a recording of a real one: the commands end in the order that the recording has.
 mod calls;
+mod next;
 mod recording;
 mod replay;
 mod turn;

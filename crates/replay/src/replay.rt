@@ -5,6 +5,9 @@ ghost use Rattle.std.specs.Of.Vec.{vec-len};
 ghost use Rattle.machine.specs.Machines.{capacity-of};
 use machine::Machine;
 
+// How many commands may be pending.
+pub(crate) const CAPACITY: usize = 8;
+
 #[derive(Drop)]
 pub struct Replay {
     pub(crate) machine: Machine,

@@ -9,28 +9,25 @@ use lib.Dec.{ltb}
 use Rattle.std.specs.Holes.{removed}
 use Rattle.std.specs.Of.Vec.{vec-items}
 use Rattle.std.proofs.shelf.Lists.{getD-read}
-use Rattle.std.proofs.shelf.Tests.{cond-true, cond-false, lt-ltb, le-ltb, both-ways}
+use Rattle.std.proofs.shelf.Tests.{cond-false, le-ltb, both-ways}
 use Rattle.std.specs.declared.option.Option.{Option}
 use Rattle.std.specs.declared.option.Option.the-variants.{Some, None}
 use Rattle.std.specs.declared.result.Result.{Result}
 use Rattle.std.specs.declared.result.Result.the-variants.{Ok, Err}
 use Rattle.std.specs.Results.{isOk}
-use Rattle.std.specs.Options.{isSome, Cases as BySome}
-use Rattle.host.specs.declared.Ended.{Ended}
+use Rattle.std.specs.Options.{isSome}
 use Rattle.host.specs.declared.Refusal.{Refusal}
 use Rattle.host.specs.declared.Refusal.the-variants.{BadCall}
 use Rattle.host.specs.Refusals.{clock-answer}
-use Rattle.host.specs.State.{State, Command, no-command}
-use Rattle.host.specs.Calls.{started, Ends, Breaks}
-use Rattle.host.specs.Steps.{Later}
-use Rattle.host.proofs.Since.{later-poll}
-use Rattle.machine.specs.Ends.{finished, finished-at, broken, broken-by, broken-at, place-of, ending, ending-at, break-answer}
+use Rattle.host.specs.State.{State, Command}
+use Rattle.host.specs.Calls.{started}
+use Rattle.machine.specs.Ends.{finished, broken, broken-by, broken-at, place-of, break-answer}
 use Rattle.simulator.specs.declared.due.Due.{Due}
 use Rattle.simulator.specs.declared.simulator.Simulator.{Simulator}
 use Rattle.simulator.specs.Dues.{no-due}
 use Rattle.simulator.specs.Sims.{Sim, sim-started, sim-ended, sim-dropped, sim-broken}
 use Rattle.simulator.specs.Simulators.{sim-of}
-use Rattle.simulator.proofs.Timed.{Timed, timed-start, timed-gone, paired-length}
+use Rattle.simulator.proofs.Timed.{Timed, timed-start, timed-gone}
 
 pub timed-of : (s : Simulator) → Timed (sim-of s)
 timed-of s = record { paired = s .paired; now = s .now; later = s .later }
@@ -45,9 +42,6 @@ pub start-timed : (s : Sim) (h : State) (ds : List Due) (c : Command) (bytes t :
 start-timed s h ds c bytes t hs e q le ok = subst Timed (sym (start-exact s h ds c None bytes t refl hs e q)) (timed-start s c bytes le ok)
 
 -- the command at a place has ended
-pub end-state : (b : Bool) (s : State) (k : ℕ) (h : State) → k < length (s .pending) → h ≡ finished-at b s k → h ≡ finished b s k
-end-state b s k h l e = e ∙ cond-true (ltb k (length (s .pending))) (finished b s k) s (lt-ltb k (length (s .pending)) l)
-
 pub end-exact : (b : Bool) (s : Sim) (k : ℕ) (h : State) (t : ℕ) (d : Due) (ds : List Due) → k < length (s .dues) → d ≡ getD (s .dues) k d → t ≡ d .tick → h ≡ finished b (s .host) k → ds ≡ removed (s .dues) k → record { host = h; tick = t; dues = ds } ≡ sim-ended b s k
 end-exact b s k h t d ds l is tick hs e =
     let q = tick ∙ ap (λ (x : Due). x .tick) (getD-read (s .dues) k d l is no-due) in
@@ -69,12 +63,6 @@ drop-state s e k h l at hs = hs ∙ cond-false (ltb 127 e) s (broken-by s (place
 
 pub drop-none : (s : Sim) (e : ℕ) → e ≤ 127 → None ≡ place-of (s .host) e → s ≡ sim-broken s e
 drop-none s e l at = ap (sim-dropped s) at ∙ sym (cond-false (ltb 127 e) s (sim-dropped s (place-of (s .host) e)) (le-ltb 127 e l))
-
-pub ending-is : (s : State) (k : ℕ) → k < length (s .pending) → ending-at s k ≡ Some (ending s k)
-ending-is s k l = cond-true (ltb k (length (s .pending))) (Some (ending s k)) None (lt-ltb k (length (s .pending)) l)
-
-pub finish-ends : (P : Type 0) (r : Option Ended) (s t : State) (k : ℕ) → k < length (s .pending) → r ≡ ending-at s k → BySome r P (λ (e : Ended). Ends s e t) → Ends s (ending s k) t
-finish-ends P r s t k l e h = subst (λ (z : Option Ended). BySome z P (λ (x : Ended). Ends s x t)) (e ∙ ending-is s k l) h
 
 -- a break-off up to edge 127 is not refused
 pub break-taken : (r : Result Bool Refusal) (s : State) (e : ℕ) → e ≤ 127 → r ≡ break-answer s e → isOk r ≡ false → ⊥

@@ -4,7 +4,6 @@ ghost use mathlib.Core.Bool.{Bool, true, false};
 ghost use mathlib.Core.List.{List, []};
 ghost use Prim.Native.Nat.{ℕ, _+_, _*_, _<_, _≤_};
 ghost use lib.ListN.{length, getD};
-ghost use Rattle.std.specs.Vec.{made};
 ghost use Rattle.std.specs.Results.{isOk};
 ghost use Rattle.std.specs.Options.{Cases as BySome};
 ghost use Rattle.std.specs.Of.Vec.{vec-items, vec-len};
@@ -15,41 +14,21 @@ ghost use Rattle.machine.specs.Fnv.{hashes, command-text};
 ghost use Rattle.machine.specs.Ends.{ending, break-answer, place-of};
 ghost use Rattle.order.specs.Earliest.{earliest-place};
 ghost use Rattle.simulator.specs.Dues.{by-due, no-due};
-ghost use Rattle.simulator.specs.Sims.{sim-fresh, sim-started, sim-ended, sim-polled, sim-answer, sim-broken, sim-written, Due-first};
+ghost use Rattle.simulator.specs.Sims.{sim-started, sim-ended, sim-polled, sim-answer, sim-broken, sim-written, Due-first};
 ghost use Rattle.simulator.specs.Simulators.{sim-of, host-of};
 use crate::due::Due;
 use crate::due::DueOrdered;
+use crate::simulator::CAPACITY;
 use crate::simulator::Simulator;
 use host::Ended;
 use host::FileView;
 use host::Host;
 use host::Refusal;
 use host::Stamped;
-use machine::Machine;
 use machine::command_len;
 use order::earliest;
-use std::alloc::AllocError;
-use std::alloc::Global;
-
-const CAPACITY: usize = 16;
 
 impl Simulator {
-    // No files, clock 0, tick 0.
-    pub fn new(heap: Global) -> Result<Simulator, AllocError>
-        ensures { λ r. ⌜ made r (λ s. sim-of s ≡ sim-fresh) ⌝ }
-    {
-        let machine = Machine::new(heap, CAPACITY)?;
-        let dues = Vec::with_capacity(heap, CAPACITY)?;
-        Ok(Simulator { machine, tick: 0, dues })
-    }
-
-    // The tick of now.
-    pub fn tick(&self) -> u64
-        ensures { λ r. ⌜ r ≡ sim-of (now (self .entry)) .tick ⌝ }
-    {
-        self.tick
-    }
-
     // Starts a command on the machine; accepted, it is due after a tick for each byte of its text.
     fn launch(&mut self, edge: usize, question: &[u8], reads: &[usize], outputs: &[usize]) -> Result<u32, Refusal>
         ensures answer { λ r. ⌜ r ≡ clock-answer (start-refusal 16 (host-of (now (self .entry))) edge (now (question .entry)) (now (reads .entry)) (now (outputs .entry))) (host-of (now (self .entry))) ⌝ }

@@ -10,6 +10,9 @@ ghost use Rattle.simulator.specs.Sims.{pending-edges};
 use crate::due::Due;
 use machine::Machine;
 
+// How many commands may be pending.
+pub(crate) const CAPACITY: usize = 16;
+
 #[derive(Drop)]
 pub struct Simulator {
     pub(crate) machine: Machine,

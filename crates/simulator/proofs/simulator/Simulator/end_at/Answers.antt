@@ -9,11 +9,12 @@ use Rattle.std.specs.declared.option.Option.the-variants.{Some}
 use Rattle.host.proofs.Since.{later-poll}
 use Rattle.host.proofs.Keeps.{ends-small}
 use Rattle.machine.specs.Ends.{ending}
+use Rattle.machine.proofs.Finishes.{end-state, ending-is, finish-ends}
 use Rattle.machine.proofs.Laws.{machine-lawful}
 use Rattle.machine.specs.Machines.{state-of, capacity-of}
 use Rattle.simulator.specs.Simulators.{sim-of}
 use Rattle.simulator.proofs.Timed.{paired-length, paired-at}
-use Rattle.simulator.proofs.Exact.{timed-of, end-state, end-exact, end-timed, ending-is, finish-ends}
+use Rattle.simulator.proofs.Exact.{timed-of, end-exact, end-timed}
 use Rattle.simulator.proofs.simulator.Simulator.end_at.Needs as need
 
 pub ghost-self : need.ghost-self

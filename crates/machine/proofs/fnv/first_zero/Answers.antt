@@ -1,6 +1,6 @@
 use native.Mathlib.Omega.{arith}
 use Rattle.machine.proofs.Hashes.{text-zero, text-more, text-all}
-use Rattle.machine.proofs.fnv.command_len.Needs as need
+use Rattle.machine.proofs.fnv.first_zero.Needs as need
 
 pub returns-then-b-eq0 : need.returns-then-b-eq0
 returns-then-b-eq0 c = omega (arith, text-zero (c .args .question .now) (c .loop-i .i) (c .loop-i-test .taken) (c .if-b-eq0 .taken), c .loop-i .inv)
