@@ -1,14 +1,14 @@
 -- The edges of the pending commands, with one command more and with one less.
 use mathlib.Core.Path.{_≡_, refl, sym, ap, _∙_, subst}
 use mathlib.Core.Bool.{Bool, true, false, _||_}
-use mathlib.Core.List.{List, [], _∷_, _++_}
+use mathlib.Core.List.{List, [], _∷_, _++_, map}
 use mathlib.Core.Logic.{_⊎_, inl, inr}
 use Prim.Native.Nat.{ℕ, _+_, _-_, _*_, _<_, _≤_, zero, suc}
 use native.Mathlib.Omega.{arith}
 use lib.ListN.{length, getD, set, take, drop}
 use lib.Dec.{eqb}
 use Rattle.std.specs.Holes.{removed}
-use Rattle.std.proofs.shelf.Lists.{length-push, getD-push, getD-append-left}
+use Rattle.std.proofs.shelf.Lists.{length-push, getD-push, getD-append-left, map-append, take-map, drop-map}
 use Rattle.std.proofs.shelf.Edits.{length-removed, getD-removed-below, getD-removed-above}
 use Rattle.std.proofs.shelf.Tests.{cases-eq, cases-lt, cases-bool, or-cases, or-parts, or-left, or-right, or-from, eq-eqb, ne-eqb, eqb-true, both-ways}
 use Rattle.std.specs.declared.result.Result.{Result}
@@ -16,6 +16,10 @@ use Rattle.std.specs.declared.result.Result.the-variants.{Ok, Err}
 use Rattle.host.specs.declared.Refusal.{Refusal}
 use Rattle.host.specs.Calls.{Breaks-off}
 use Rattle.host.specs.State.{State, Command, Distinct, Small, pends, edge-at, no-command}
+
+-- a list with one less, seen through a function
+pub map-removed : {X Y : Type 0} (f : X → Y) (xs : List X) (k : ℕ) → map f (removed xs k) ≡ removed (map f xs) k
+map-removed {X} {Y} f xs k = map-append f (take k xs) (drop (suc k) xs) ∙ ap (λ (z : List Y). z ++ map f (drop (suc k) xs)) (sym (take-map f k xs)) ∙ ap (λ (z : List Y). take k (map f xs) ++ z) (sym (drop-map f (suc k) xs))
 
 pub edge-push-left : (cs : List Command) (c : Command) (k : ℕ) → k < length cs → edge-at (cs ++ (c ∷ [])) k ≡ edge-at cs k
 edge-push-left cs c k h = ap (λ (x : Command). x .edge) (getD-append-left cs (c ∷ []) no-command k h)

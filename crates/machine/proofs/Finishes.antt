@@ -3,11 +3,11 @@ use mathlib.Core.Path.{_≡_, refl, sym, ap, _∙_, subst}
 use mathlib.Core.Bool.{Bool, true, false, cond, not, _&&_}
 use mathlib.Core.List.{List, [], _∷_, _++_, map}
 use mathlib.Core.Logic.{_⊎_, inl, inr}
-use Prim.Native.Nat.{ℕ, suc, _+_, _-_, _<_, _≤_}
+use Prim.Native.Nat.{ℕ, _+_, _-_, _<_, _≤_}
 use native.Mathlib.Omega.{arith}
-use lib.ListN.{length, getD, set, take, drop}
+use lib.ListN.{length, getD, set}
 use lib.Dec.{eqb, ltb}
-use Rattle.std.proofs.shelf.Lists.{length-set, length-map, map-append, take-map, drop-map, getD-map, getD-read}
+use Rattle.std.proofs.shelf.Lists.{length-set, length-map, getD-map}
 use Rattle.std.proofs.shelf.Tests.{cases-bool, cond-true, cond-false, and-parts, eqb-true, lt-ltb}
 use Rattle.std.specs.Holes.{removed}
 use Rattle.std.specs.Options.{isSome, mapped, Cases as BySome}
@@ -18,6 +18,7 @@ use Rattle.host.specs.declared.Stamped.{Stamped}
 use Rattle.host.specs.declared.Ended.{Ended}
 use Rattle.host.specs.State.{Files, State, Command, Lawful, Stamps, at, no-command}
 use Rattle.host.specs.Calls.{stamped, Holds, Wrote, All-wrote, All-ruined, Leaves, Ends, Breaks, Breaks-off}
+use Rattle.host.proofs.Pends.{map-removed}
 use Rattle.host.proofs.Keeps.{held, stamps-set, stamps-gone, lawful-cut}
 use Rattle.machine.specs.declared.command.Pending.{Pending}
 use Rattle.machine.specs.Ends.{Volume, has, settled, all-settled, all-removed, left-by, volume-of, without, finished, broken-at, ending, place-of, edge-in, finished-at, ending-at}
@@ -85,9 +86,6 @@ edge-is ps k p l e =
     ap (λ (q : Pending). Some (q .edge)) (sym e) ∙ ap (λ (c : Command). Some (c .edge)) (sym (told-at ps k p l e))
     ∙ sym (cond-true (ltb k (length (map told ps))) (Some (getD (map told ps) k no-command .edge)) None (lt-ltb k (length (map told ps)) (omega (arith, length-map ps told))))
 
-map-removed : (ps : List Pending) (k : ℕ) → map told (removed ps k) ≡ removed (map told ps) k
-map-removed ps k = map-append told (take k ps) (drop (suc k) ps) ∙ ap (λ (z : List Command). z ++ map told (drop (suc k) ps)) (sym (take-map told k ps)) ∙ ap (λ (z : List Command). take k (map told ps) ++ z) (sym (drop-map told (suc k) ps))
-
 leaves-told : (b : Bool) (s : State) (p : Pending) (k : ℕ) → Leaves s (told p .outputs) (told p .outcome) (without s k (left-by b (volume-of s) (told p .outputs) (told p .outcome)))
 leaves-told b s p k = go (p .hash) where
   go : (h : Option ℕ) → Leaves s (named (p .outputs)) (mapped (marks-from (p .outputs .count)) h) (without s k (left-by b (volume-of s) (named (p .outputs)) (mapped (marks-from (p .outputs .count)) h)))
@@ -120,7 +118,7 @@ ending-told fs t ps k p g l e is =
 
 -- the machine after the command p, which stood at k, left this volume
 pub left-state : (v u : Volume) (ps ps′ : List Pending) (k : ℕ) → ps′ ≡ removed ps k → state-from (u .files) (u .clock) ps′ ≡ without (state-from (v .files) (v .clock) ps) k u
-left-state v u ps ps′ k e = ap (λ (z : List Command). record { files = u .files; clock = u .clock; pending = z }) (ap (map told) e ∙ map-removed ps k)
+left-state v u ps ps′ k e = ap (λ (z : List Command). record { files = u .files; clock = u .clock; pending = z }) (ap (map told) e ∙ map-removed told ps k)
 
 pub finish-state : (b : Bool) (v u : Volume) (ps ps′ : List Pending) (k : ℕ) (p : Pending) → k < length ps → p ≡ getD ps k p → ps′ ≡ removed ps k → u ≡ left-by b v (told p .outputs) (told p .outcome) → state-from (u .files) (u .clock) ps′ ≡ finished b (state-from (v .files) (v .clock) ps) k
 finish-state b v u ps ps′ k p l is e left =

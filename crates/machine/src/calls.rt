@@ -42,7 +42,15 @@ impl Machine {
         ensures fresh { λ r. ⌜ made r (λ m. state-of m ≡ fresh) ⌝ }
         ensures capacity { λ r. ⌜ made r (λ m. capacity-of m ≡ min capacity 64) ⌝ }
     {
-        let capacity = capacity.min(MOST_COMMANDS);
+        Machine::blank(heap, capacity.min(MOST_COMMANDS))
+    }
+
+    // A machine on which nothing has happened yet.
+    fn blank(heap: Global, capacity: usize) -> Result<Machine, AllocError>
+        requires { ⌜ capacity ≤ 64 ⌝ }
+        ensures fresh { λ r. ⌜ made r (λ m. state-of m ≡ fresh) ⌝ }
+        ensures capacity { λ r. ⌜ made r (λ m. capacity-of m ≡ capacity) ⌝ }
+    {
         let disk = Disk::new(heap)?;
         let pending = Vec::with_capacity(heap, capacity)?;
         Ok(Machine { disk, pending, capacity })

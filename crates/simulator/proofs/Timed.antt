@@ -3,16 +3,17 @@ use mathlib.Core.Path.{_≡_, refl, sym, ap, _∙_, subst}
 use mathlib.Core.Bool.{Bool}
 use mathlib.Core.List.{List, [], _∷_, _++_, map}
 use mathlib.Core.Logic.{inl, inr}
-use Prim.Native.Nat.{ℕ, suc, _+_, _*_, _<_, _≤_}
+use Prim.Native.Nat.{ℕ, _+_, _*_, _<_, _≤_}
 use native.Mathlib.Omega.{arith}
-use lib.ListN.{length, getD, take, drop}
+use lib.ListN.{length, getD}
 use Rattle.std.specs.Holes.{removed}
-use Rattle.std.proofs.shelf.Lists.{length-map, length-push, map-push, map-append, take-map, drop-map, getD-map, getD-push, getD-append-left, getD-read, nil-from-length}
+use Rattle.std.proofs.shelf.Lists.{length-map, length-push, map-push, getD-map, getD-push, getD-append-left, getD-read, nil-from-length}
 use Rattle.std.proofs.shelf.Edits.{length-removed, getD-removed-below, getD-removed-above}
 use Rattle.std.proofs.shelf.Tests.{cases-lt}
 use Rattle.std.specs.declared.option.Option.the-variants.{Some, None}
 use Rattle.host.specs.State.{State, Command, no-command}
 use Rattle.host.specs.Calls.{started}
+use Rattle.host.proofs.Pends.{map-removed}
 use Rattle.simulator.specs.declared.due.Due.{Due}
 use Rattle.simulator.specs.Dues.{due-edge, no-due}
 use Rattle.simulator.specs.Sims.{Sim, pending-edges, sim-started}
@@ -43,9 +44,6 @@ timed-start s c bytes le h =
       later = λ k l. elim (cases-lt k (length (s .dues))) [
           inl a ↦ omega (arith, h .later k a, ap (λ (x : Due). x .tick) (getD-append-left (s .dues) (d ∷ []) no-due k a))
         | inr b ↦ omega (arith, h .now, ap (λ (x : Due). x .tick) (getD-push (s .dues) d no-due k (omega (arith, length-push (s .dues) d)))) ] }
-
-map-removed : {X : Type 0} (f : X → ℕ) (xs : List X) (k : ℕ) → map f (removed xs k) ≡ removed (map f xs) k
-map-removed f xs k = map-append f (take k xs) (drop (suc k) xs) ∙ ap (λ (z : List ℕ). z ++ map f (drop (suc k) xs)) (sym (take-map f k xs)) ∙ ap (λ (z : List ℕ). take k (map f xs) ++ z) (sym (drop-map f (suc k) xs))
 
 -- the command at a place is gone, and the clock has not fallen
 pub timed-gone : (s : Sim) (k : ℕ) (t : State) (tick : ℕ) (ds : List Due) → k < length (s .dues) → t .pending ≡ removed (s .host .pending) k → ds ≡ removed (s .dues) k → s .host .clock ≤ t .clock → tick ≤ 1024 * s .host .clock → Timed s → Timed (record { host = t; tick = tick; dues = ds })

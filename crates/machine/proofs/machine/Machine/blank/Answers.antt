@@ -4,7 +4,7 @@ use mathlib.Core.Path.{ap}
 use Rattle.machine.specs.Ends.{Volume}
 use Rattle.machine.specs.Disks.{volume}
 use Rattle.machine.proofs.Laws.{new-lawful, each-counted}
-use Rattle.machine.proofs.machine.Machine.new.Needs as need
+use Rattle.machine.proofs.machine.Machine.blank.Needs as need
 
 pub ghost-result : need.ghost-result
 ghost-result c =

@@ -1,5 +1,0 @@
-use std::error::AnyError;
-
-fn main(rt: LibcRuntime) -> Result<(), AnyError> {
-    Ok(())
-}
