@@ -47,8 +47,9 @@ pends-at (c ∷ cs) (suc i) h = or-right (eqb (c .edge) (edge-at cs i)) (pends c
 pub pends-place : (cs : List Command) (e : ℕ) → pends cs e ≡ true → (k : ℕ) × (k < length cs) × (edge-at cs k ≡ e)
 pends-place [] e h = absurd (both-ways false refl h)
 pends-place (c ∷ cs) e h = elim (or-cases (eqb (c .edge) e) (pends cs e) h) [
-    inl a ↦ (0, omega arith, eqb-true (c .edge) e a)
-  | inr b ↦ let p = pends-place cs e b in (suc (p .0), omega arith, p .2) ]
+  | inl a ↦ (0, omega arith, eqb-true (c .edge) e a)
+  | inr b ↦ let p = pends-place cs e b in (suc (p .0), omega arith, p .2)
+]
 
 or-out : (b d : Bool) → b ≡ false → (b || d) ≡ d
 or-out b d h = simp h
@@ -60,11 +61,13 @@ pends-cut-other (c ∷ cs) (suc i) e h ne = ap (λ (z : Bool). eqb (c .edge) e |
 
 pub pends-cut-same : (cs : List Command) (i : ℕ) → i < length cs → Distinct cs → pends (removed cs i) (edge-at cs i) ≡ false
 pends-cut-same cs i h d = elim (cases-bool (pends (removed cs i) (edge-at cs i))) [
-    inr b ↦ b
+  | inr b ↦ b
   | inl a ↦ let p = pends-place (removed cs i) (edge-at cs i) a in let n = length-removed cs i h in
       elim (cases-lt (p .0) i) [
-        inl b ↦ absurd (d (p .0) i b h (sym (edge-cut-below cs i (p .0) b h) ∙ p .2))
-      | inr b ↦ absurd (d i (p .0 + 1) (omega arith) (omega arith) (sym (p .2) ∙ edge-cut-above cs i (p .0) b h)) ] ]
+        | inl b ↦ absurd (d (p .0) i b h (sym (edge-cut-below cs i (p .0) b h) ∙ p .2))
+        | inr b ↦ absurd (d i (p .0 + 1) (omega arith) (omega arith) (sym (p .2) ∙ edge-cut-above cs i (p .0) b h))
+      ]
+]
 
 -- commands of edges up to 127, of which none pends, are no commands
 pub none-pend : (cs : List Command) → Small cs → ((x : ℕ) → x < 128 → pends cs x ≡ false) → cs ≡ []
@@ -80,8 +83,9 @@ pub distinct-push : (cs : List Command) (c : Command) → Distinct cs → pends 
 distinct-push cs c h off j k jk lt e =
     let jl : j < length cs = omega (arith, length-push cs c) in
     elim (cases-lt k (length cs)) [
-      inl a ↦ h j k jk a (sym (edge-push-left cs c j jl) ∙ e ∙ edge-push-left cs c k a)
-    | inr b ↦ pends-none cs (c .edge) j off jl (sym (edge-push-left cs c j jl) ∙ e ∙ edge-push-last cs c k (omega (arith, length-push cs c))) ]
+      | inl a ↦ h j k jk a (sym (edge-push-left cs c j jl) ∙ e ∙ edge-push-left cs c k a)
+      | inr b ↦ pends-none cs (c .edge) j off jl (sym (edge-push-left cs c j jl) ∙ e ∙ edge-push-last cs c k (omega (arith, length-push cs c)))
+    ]
 
 pub small-cut : (cs : List Command) (i : ℕ) → i < length cs → Small cs → Small (removed cs i)
 small-cut cs i lt h k kl =
@@ -92,15 +96,18 @@ pub distinct-cut : (cs : List Command) (i : ℕ) → i < length cs → Distinct 
 distinct-cut cs i lt h j k jk kl e =
     let n = length-removed cs i lt in
     elim (cases-lt j i) [
-      inl a ↦ elim (cases-lt k i) [
-          inl b ↦ h j k jk (omega arith) (sym (edge-cut-below cs i j a lt) ∙ e ∙ edge-cut-below cs i k b lt)
-        | inr b ↦ h j (k + 1) (omega arith) (omega arith) (sym (edge-cut-below cs i j a lt) ∙ e ∙ edge-cut-above cs i k b lt) ]
-    | inr a ↦ h (j + 1) (k + 1) (omega arith) (omega arith) (sym (edge-cut-above cs i j a lt) ∙ e ∙ edge-cut-above cs i k (omega arith) lt) ]
+      | inl a ↦ elim (cases-lt k i) [
+        | inl b ↦ h j k jk (omega arith) (sym (edge-cut-below cs i j a lt) ∙ e ∙ edge-cut-below cs i k b lt)
+        | inr b ↦ h j (k + 1) (omega arith) (omega arith) (sym (edge-cut-below cs i j a lt) ∙ e ∙ edge-cut-above cs i k b lt)
+      ]
+      | inr a ↦ h (j + 1) (k + 1) (omega arith) (omega arith) (sym (edge-cut-above cs i j a lt) ∙ e ∙ edge-cut-above cs i k (omega arith) lt)
+    ]
 
 -- after edge e is broken off, nothing pends of it and of the edges below
 pub quiet-more : (s : State) (e : ℕ) (r : Result Bool Refusal) (t : State) → e < 128 → Distinct (s .pending) → Breaks-off s e r t → ((x : ℕ) → x < e → pends (s .pending) x ≡ false) → (x : ℕ) → x < e + 1 → pends (t .pending) x ≡ false
 quiet-more s e (Ok true) t el d h below x lt = elim (cases-eq x e) [
-    inl a ↦ ap (λ (z : List Command). pends z x) (h .1 .rest) ∙ ap (pends (removed (s .pending) (h .1 .place))) (a ∙ sym (h .1 .edge)) ∙ pends-cut-same (s .pending) (h .1 .place) (h .1 .within) d
-  | inr b ↦ ap (λ (z : List Command). pends z x) (h .1 .rest) ∙ pends-cut-other (s .pending) (h .1 .place) x (h .1 .within) (λ z. b (sym z ∙ h .1 .edge)) ∙ below x (omega arith) ]
+  | inl a ↦ ap (λ (z : List Command). pends z x) (h .1 .rest) ∙ ap (pends (removed (s .pending) (h .1 .place))) (a ∙ sym (h .1 .edge)) ∙ pends-cut-same (s .pending) (h .1 .place) (h .1 .within) d
+  | inr b ↦ ap (λ (z : List Command). pends z x) (h .1 .rest) ∙ pends-cut-other (s .pending) (h .1 .place) x (h .1 .within) (λ z. b (sym z ∙ h .1 .edge)) ∙ below x (omega arith)
+]
 quiet-more s e (Ok false) t el d h below x lt = ap (λ (z : State). pends (z .pending) x) (h .2) ∙ elim (cases-eq x e) [ inl a ↦ ap (pends (s .pending)) a ∙ h .1 | inr b ↦ below x (omega arith) ]
 quiet-more s e (Err r) t el d h below x lt = absurd (omega (arith, h .0))

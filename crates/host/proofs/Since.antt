@@ -40,18 +40,22 @@ after-none fs fs′ t t′ p q = record { clock = q; files = λ f. since-same t 
 
 pub after-then : (fs fs₁ fs₂ : Files) (t t₁ t₂ : ℕ) → After fs t fs₁ t₁ → After fs₁ t₁ fs₂ t₂ → After fs t fs₂ t₂
 after-then fs fs₁ fs₂ t t₁ t₂ p q = record {
-    clock = omega (arith, p .clock, q .clock);
-    files = λ f. since-then t t₁ (at fs f) (at fs₁ f) (at fs₂ f) (p .clock) (p .files f) (q .files f) }
+  clock = omega (arith, p .clock, q .clock);
+  files = λ f. since-then t t₁ (at fs f) (at fs₁ f) (at fs₂ f) (p .clock) (p .files f) (q .files f);
+}
 
 -- one file is absent or stamped above the clock of before
 pub after-set : (fs fs′ : Files) (t t′ f : ℕ) (x : Option Stamped) → ((y : Option Stamped) → Since t y x) → t ≤ t′ → fs′ ≡ set fs f x → After fs t fs′ t′
 after-set fs fs′ t t′ f x fresh l e = record {
-    clock = l;
-    files = λ g. subst (λ (z : Files). Since t (at fs g) (at z g)) (sym e) (elim (cases-eq g f) [
-        inr b ↦ since-same t _ _ (getD-set-other fs f g x None b)
-      | inl a ↦ elim (cases-lt f (length fs)) [
-            inl b ↦ subst (Since t (at fs g)) (sym (ap (λ (z : ℕ). at (set fs f x) z) a ∙ getD-set-same fs f x None b)) (fresh (at fs g))
-          | inr b ↦ since-same t _ _ (ap (λ (z : Files). at z g) (set-past fs f x b)) ] ]) }
+  clock = l;
+  files = λ g. subst (λ (z : Files). Since t (at fs g) (at z g)) (sym e) (elim (cases-eq g f) [
+    | inr b ↦ since-same t _ _ (getD-set-other fs f g x None b)
+    | inl a ↦ elim (cases-lt f (length fs)) [
+      | inl b ↦ subst (Since t (at fs g)) (sym (ap (λ (z : ℕ). at (set fs f x) z) a ∙ getD-set-same fs f x None b)) (fresh (at fs g))
+      | inr b ↦ since-same t _ _ (ap (λ (z : Files). at z g) (set-past fs f x b))
+    ]
+  ]);
+}
 
 after-wrote : (fs : Files) (t f m : ℕ) (fs′ : Files) (t′ : ℕ) → Wrote fs t f m fs′ t′ → After fs t fs′ t′
 after-wrote fs t f m fs′ t′ (inl a) = after-set fs fs′ t t′ f _ (λ y. inr (omega arith)) (omega (arith, a .1)) (a .0)
@@ -80,8 +84,9 @@ later-same s t e = later-by s t (after-none (s .files) (t .files) (s .clock) (t 
 
 pub later-then : (s t u : State) → Later s t → Later t u → Later s u
 later-then s t u p q = record {
-    clock = omega (arith, p .clock, q .clock);
-    files = λ f. since-then (s .clock) (t .clock) (at (s .files) f) (at (t .files) f) (at (u .files) f) (p .clock) (p .files f) (q .files f) }
+  clock = omega (arith, p .clock, q .clock);
+  files = λ f. since-then (s .clock) (t .clock) (at (s .files) f) (at (t .files) f) (at (u .files) f) (p .clock) (p .files f) (q .files f);
+}
 
 pub later-start : (r : Option Refusal) (s t : State) (c : Command) → t ≡ started r s c → Later s t
 later-start (Some r) s t c e = later-same s t e

@@ -17,6 +17,7 @@ use Rattle.host.specs.declared.Ended.{Ended}
 use Rattle.host.specs.declared.Refusal.{Refusal}
 use Rattle.host.specs.declared.Refusal.the-variants.{BadCall}
 use Rattle.host.specs.State.{Files, State, Command, at, pends, no-command}
+use Rattle.host.specs.Refusals.{start-refusal, write-refusal, clock-answer}
 
 -- the function that a host's commands work out: question, marks of the reads, count of outputs; a failure or one mark each
 abbrev pub Makes : Type 0
@@ -121,3 +122,18 @@ placed t (Some m) = stamped t m
 abbrev pub written : Option Refusal → State → ℕ → Option ℕ → State
 written None s f m = record { files = set (s .files) f (placed (s .clock + 1) m); clock = s .clock + 1; pending = s .pending }
 written (Some r) s f m = s
+
+-- what a start answers on a host of this capacity, and the moment after it
+abbrev pub start-answer : ℕ → State → ℕ → List ℕ → List ℕ → List ℕ → Result ℕ Refusal
+start-answer capacity s e question reads outputs = clock-answer (start-refusal capacity s e question reads outputs) s
+
+abbrev pub after-start : ℕ → Makes → State → ℕ → List ℕ → List ℕ → List ℕ → State
+after-start capacity makes s e question reads outputs =
+    started (start-refusal capacity s e question reads outputs) s (command-of makes s e question reads outputs)
+
+-- what an outside write answers, and the moment after it
+abbrev pub write-answer : State → ℕ → Result ℕ Refusal
+write-answer s f = clock-answer (write-refusal s f) s
+
+abbrev pub after-write : State → ℕ → Option ℕ → State
+after-write s f m = written (write-refusal s f) s f m

@@ -12,8 +12,7 @@ use Rattle.host.specs.declared.Stamped.{Stamped}
 use Rattle.host.specs.declared.Ended.{Ended}
 use Rattle.host.specs.declared.Refusal.{Refusal}
 use Rattle.host.specs.State.{State, Files, Command, at}
-use Rattle.host.specs.Calls.{Makes, command-of, started, Polls, Breaks-off, written}
-use Rattle.host.specs.Refusals.{start-refusal, write-refusal}
+use Rattle.host.specs.Calls.{Makes, after-start, after-write, Polls, Breaks-off}
 
 -- one call on a host of this capacity, with what it was given and what it answered
 pub data Call : Type 0 where
@@ -24,10 +23,10 @@ pub data Call : Type 0 where
 
 -- the call leads from one moment to the other, as the promises of a host say it
 abbrev pub Step : ℕ → Makes → Call → State → State → Type 0
-Step capacity makes (start e q rs os) s t = t ≡ started (start-refusal capacity s e q rs os) s (command-of makes s e q rs os)
+Step capacity makes (start e q rs os) s t = t ≡ after-start capacity makes s e q rs os
 Step capacity makes (poll r) s t = Polls s r t
 Step capacity makes (break-off e r) s t = Breaks-off s e r t
-Step capacity makes (write f m) s t = t ≡ written (write-refusal s f) s f m
+Step capacity makes (write f m) s t = t ≡ after-write s f m
 
 -- the calls, one after the other, lead from one moment to the other
 abbrev pub Steps : ℕ → Makes → List Call → State → State → Type 0

@@ -10,8 +10,8 @@ ghost use Rattle.std.specs.Options.{Cases as BySome};
 ghost use Rattle.std.specs.Results.{isOk};
 ghost use Rattle.host.specs.declared.Stamped.{Stamped};
 ghost use Rattle.host.specs.State.{State, Files, Lawful};
-ghost use Rattle.host.specs.Calls.{Makes, command-of, started, Polls, Breaks-off, written};
-ghost use Rattle.host.specs.Refusals.{number-of, start-refusal, write-refusal, clock-answer, tell-answer};
+ghost use Rattle.host.specs.Calls.{Makes, start-answer, after-start, write-answer, after-write, Polls, Breaks-off};
+ghost use Rattle.host.specs.Refusals.{number-of, tell-answer};
 ghost use Rattle.host.specs.Steps.{Breaks-below, Later, Unwritten-kept};
 
 // A file that is present: when it was written last, and what it contains, as a number.
@@ -84,9 +84,15 @@ pub trait Host: FileView {
         ensures { λ r. ⌜ r ≡ state (now (self .entry)) .clock ⌝ };
 
     // Starts a command; accepted, the answer is the risen clock.
-    fn start(&mut self, edge: usize, question: &[u8], reads: &[usize], outputs: &[usize]) -> Result<u32, Refusal>
-        ensures answer { λ r. ⌜ r ≡ clock-answer (start-refusal capacity (state (now (self .entry))) edge (now (question .entry)) (now (reads .entry)) (now (outputs .entry))) (state (now (self .entry))) ⌝ }
-        ensures after { λ _. ⌜ state (now (self .exit)) ≡ started (start-refusal capacity (state (now (self .entry))) edge (now (question .entry)) (now (reads .entry)) (now (outputs .entry))) (state (now (self .entry))) (command-of makes (state (now (self .entry))) edge (now (question .entry)) (now (reads .entry)) (now (outputs .entry))) ⌝ }
+    fn start(
+        &mut self,
+        edge: usize,
+        question: &[u8],
+        reads: &[usize],
+        outputs: &[usize],
+    ) -> Result<u32, Refusal>
+        ensures answer { λ r. ⌜ r ≡ start-answer capacity (state (now (self .entry))) edge (now (question .entry)) (now (reads .entry)) (now (outputs .entry)) ⌝ }
+        ensures after { λ _. ⌜ state (now (self .exit)) ≡ after-start capacity makes (state (now (self .entry))) edge (now (question .entry)) (now (reads .entry)) (now (outputs .entry)) ⌝ }
         ensures kept { λ r. ⌜ (isOk r ≡ false → now (self .exit) ≡ now (self .entry)) ⌝ };
 
     // Ends one pending command, if there is one.
@@ -101,8 +107,8 @@ pub trait Host: FileView {
 
     // A write from outside: the file gets the mark or, without one, is removed. The answer is the risen clock.
     fn outside_write(&mut self, file: usize, mark: Option<u32>) -> Result<u32, Refusal>
-        ensures answer { λ r. ⌜ r ≡ clock-answer (write-refusal (state (now (self .entry))) file) (state (now (self .entry))) ⌝ }
-        ensures after { λ _. ⌜ state (now (self .exit)) ≡ written (write-refusal (state (now (self .entry))) file) (state (now (self .entry))) file mark ⌝ }
+        ensures answer { λ r. ⌜ r ≡ write-answer (state (now (self .entry))) file ⌝ }
+        ensures after { λ _. ⌜ state (now (self .exit)) ≡ after-write (state (now (self .entry))) file mark ⌝ }
         ensures kept { λ r. ⌜ (isOk r ≡ false → now (self .exit) ≡ now (self .entry)) ⌝ };
 }
 

@@ -34,8 +34,9 @@ pub record Fine (v : Volume) (n : ℕ) (u : Volume) : Type 0 where
 
 settled-fine : (b : Bool) (v : Volume) (f m : ℕ) → Stamps (v .files) (v .clock) → Fine v 1 (settled b v f m)
 settled-fine b v f m h = elim (cases-bool (not b && has (at (v .files) f) m)) [
-    inl a ↦ subst (Fine v 1) (sym (cond-true _ v _ a)) (record { count = refl; stamps = h; clock = omega arith })
-  | inr z ↦ subst (Fine v 1) (sym (cond-false _ v _ z)) (record { count = length-set (v .files) f _; stamps = stamps-set (v .files) (v .clock) f m h; clock = omega arith }) ]
+  | inl a ↦ subst (Fine v 1) (sym (cond-true _ v _ a)) (record { count = refl; stamps = h; clock = omega arith })
+  | inr z ↦ subst (Fine v 1) (sym (cond-false _ v _ z)) (record { count = length-set (v .files) f _; stamps = stamps-set (v .files) (v .clock) f m h; clock = omega arith })
+]
 
 all-settled-fine : (b : Bool) (v : Volume) (outs ms : List ℕ) → Stamps (v .files) (v .clock) → Fine v (length outs) (all-settled b v outs ms)
 all-settled-fine b v [] ms h = record { count = refl; stamps = h; clock = omega arith }
@@ -64,8 +65,9 @@ has-holds (Some x) m h = eqb-true (x .mark) m h
 
 settled-wrote : (b : Bool) (v : Volume) (f m : ℕ) → Wrote (v .files) (v .clock) f m (settled b v f m .files) (settled b v f m .clock)
 settled-wrote b v f m = elim (cases-bool (not b && has (at (v .files) f) m)) [
-    inl a ↦ subst (λ (u : Volume). Wrote (v .files) (v .clock) f m (u .files) (u .clock)) (sym (cond-true _ v _ a)) (inr (has-holds (at (v .files) f) m (and-parts (not b) (has (at (v .files) f) m) a .1), refl, refl))
-  | inr z ↦ subst (λ (u : Volume). Wrote (v .files) (v .clock) f m (u .files) (u .clock)) (sym (cond-false _ v _ z)) (inl (refl, refl)) ]
+  | inl a ↦ subst (λ (u : Volume). Wrote (v .files) (v .clock) f m (u .files) (u .clock)) (sym (cond-true _ v _ a)) (inr (has-holds (at (v .files) f) m (and-parts (not b) (has (at (v .files) f) m) a .1), refl, refl))
+  | inr z ↦ subst (λ (u : Volume). Wrote (v .files) (v .clock) f m (u .files) (u .clock)) (sym (cond-false _ v _ z)) (inl (refl, refl))
+]
 
 all-settled-wrote : (b : Bool) (v : Volume) (outs ms : List ℕ) → length ms ≡ length outs → All-wrote (v .files) (v .clock) outs ms (all-settled b v outs ms .files) (all-settled b v outs ms .clock)
 all-settled-wrote b v [] [] h = (refl, refl)
@@ -97,8 +99,13 @@ pub finished-ends : (b : Bool) (fs : Files) (t : ℕ) (ps : List Pending) (k : �
 finished-ends b fs t ps k p l e =
     let s = state-from fs t ps in
     record {
-      place = k; within = omega (arith, length-map ps told); edge = refl; good = refl; rest = refl;
-      leaves = subst (λ (c : Command). Leaves s (c .outputs) (c .outcome) (without s k (left-by b (volume-of s) (c .outputs) (c .outcome)))) (sym (told-at ps k p l e)) (leaves-told b s p k) }
+      place = k;
+      within = omega (arith, length-map ps told);
+      edge = refl;
+      good = refl;
+      rest = refl;
+      leaves = subst (λ (c : Command). Leaves s (c .outputs) (c .outcome) (without s k (left-by b (volume-of s) (c .outputs) (c .outcome)))) (sym (told-at ps k p l e)) (leaves-told b s p k);
+    }
 
 -- and is broken off as a host may break it off
 pub broken-breaks : (fs : Files) (t : ℕ) (ps : List Pending) (k e : ℕ) → k < length (map told ps) → getD (map told ps) k no-command .edge ≡ e → Breaks (state-from fs t ps) e (broken-at (state-from fs t ps) k)
@@ -111,10 +118,11 @@ ending-told fs t ps k p g l e is =
     let at = told-at ps k p l e in
     λ i. record {
       edge = ap (λ (c : Command). c .edge) (sym at) i;
-      good = (is ∙ some (p .hash) ∙ ap (λ (c : Command). isSome (c .outcome)) (sym at)) i } where
-  some : (h : Option ℕ) → isSome h ≡ isSome (mapped (marks-from (p .outputs .count)) h)
-  some None = refl
-  some (Some h) = refl
+      good = (is ∙ some (p .hash) ∙ ap (λ (c : Command). isSome (c .outcome)) (sym at)) i;
+    } where
+      some : (h : Option ℕ) → isSome h ≡ isSome (mapped (marks-from (p .outputs .count)) h)
+      some None = refl
+      some (Some h) = refl
 
 -- the machine after the command p, which stood at k, left this volume
 pub left-state : (v u : Volume) (ps ps′ : List Pending) (k : ℕ) → ps′ ≡ removed ps k → state-from (u .files) (u .clock) ps′ ≡ without (state-from (v .files) (v .clock) ps) k u

@@ -35,8 +35,9 @@ fnv-end h bs i l = at-drop-all (fnv-more h) bs i l
 -- one byte of a word without byte 0
 begins-step : (k : ℕ) (ks : List ℕ) (b : ℕ) (bs : List ℕ) → 0 < k → begins (k ∷ ks) (command-text (b ∷ bs)) ≡ (eqb b k && begins ks (command-text bs))
 begins-step k ks b bs h = elim (cases-bool (eqb b 0)) [
-    inl a ↦ ap (begins (k ∷ ks)) (cond-true (eqb b 0) [] (b ∷ command-text bs) a) ∙ sym (and-left (eqb b k) (begins ks (command-text bs)) (ne-eqb b k (λ e. let z = eqb-true b 0 a in omega arith)))
-  | inr n ↦ ap (begins (k ∷ ks)) (cond-false (eqb b 0) [] (b ∷ command-text bs) n) ]
+  | inl a ↦ ap (begins (k ∷ ks)) (cond-true (eqb b 0) [] (b ∷ command-text bs) a) ∙ sym (and-left (eqb b k) (begins ks (command-text bs)) (ne-eqb b k (λ e. let z = eqb-true b 0 a in omega arith)))
+  | inr n ↦ ap (begins (k ∷ ks)) (cond-false (eqb b 0) [] (b ∷ command-text bs) n)
+]
 
 and-two : (x y z : Bool) → y ≡ z → (x && y) ≡ (x && z)
 and-two x y z e = ap (λ (v : Bool). x && v) e
@@ -55,17 +56,18 @@ fails-is (a ∷ b ∷ c ∷ []) =
 fails-is (a ∷ b ∷ c ∷ d ∷ r) =
     begins-step 102 (97 ∷ 105 ∷ 108 ∷ []) a (b ∷ c ∷ d ∷ r) (omega arith)
     ∙ and-two (eqb a 102) (begins (97 ∷ 105 ∷ 108 ∷ []) (command-text (b ∷ c ∷ d ∷ r))) (eqb b 97 && (eqb c 105 && eqb d 108))
-      (begins-step 97 (105 ∷ 108 ∷ []) b (c ∷ d ∷ r) (omega arith)
-      ∙ and-two (eqb b 97) (begins (105 ∷ 108 ∷ []) (command-text (c ∷ d ∷ r))) (eqb c 105 && eqb d 108)
-        (begins-step 105 (108 ∷ []) c (d ∷ r) (omega arith)
-        ∙ and-two (eqb c 105) (begins (108 ∷ []) (command-text (d ∷ r))) (eqb d 108) (begins-step 108 [] d r (omega arith) ∙ and-true (eqb d 108))))
+    (begins-step 97 (105 ∷ 108 ∷ []) b (c ∷ d ∷ r) (omega arith)
+    ∙ and-two (eqb b 97) (begins (105 ∷ 108 ∷ []) (command-text (c ∷ d ∷ r))) (eqb c 105 && eqb d 108)
+    (begins-step 105 (108 ∷ []) c (d ∷ r) (omega arith)
+    ∙ and-two (eqb c 105) (begins (108 ∷ []) (command-text (d ∷ r))) (eqb d 108) (begins-step 108 [] d r (omega arith) ∙ and-true (eqb d 108))))
     ∙ sym (ap (λ (v : Bool). v && (eqb a 102 && (eqb b 97 && (eqb c 105 && eqb d 108)))) (lt-ltb 3 (length (a ∷ b ∷ c ∷ d ∷ r)) (omega arith))) where
-  and-true : (x : Bool) → (x && true) ≡ x
-  and-true true = refl
-  and-true false = refl
+      and-true : (x : Bool) → (x && true) ≡ x
+      and-true true = refl
+      and-true false = refl
 
 pub text-short : (q : List ℕ) → length (command-text q) ≤ length q
 text-short [] = omega arith
 text-short (b ∷ q) = elim (cases-bool (eqb b 0)) [
-    inl a ↦ omega (arith, ap length (cond-true (eqb b 0) [] (b ∷ command-text q) a))
-  | inr n ↦ omega (arith, ap length (cond-false (eqb b 0) [] (b ∷ command-text q) n), text-short q) ]
+  | inl a ↦ omega (arith, ap length (cond-true (eqb b 0) [] (b ∷ command-text q) a))
+  | inr n ↦ omega (arith, ap length (cond-false (eqb b 0) [] (b ∷ command-text q) n), text-short q)
+]

@@ -71,7 +71,8 @@ accepted n s e q rs os h =
       off = or-parts (pends (s .pending) e) _ (edge .1) .0;
       few = leb-false n (length (s .pending)) (full .0);
       clock = ltb-false 4000000000 (s .clock) (spent .0);
-      question = ltb-false 1024 (length q) (or-parts (ltb 1024 (length q)) _ (or-parts (pends (s .pending) e) _ (edge .1) .1) .0) }
+      question = ltb-false 1024 (length q) (or-parts (ltb 1024 (length q)) _ (or-parts (pends (s .pending) e) _ (edge .1) .1) .0);
+    }
 
 -- the command that is kept is the one that the host means
 pub told-started : (fs : Files) (t : ℕ) (ps : List Pending) (e : ℕ) (o : Outputs) (h : Option ℕ) (q rs os : List ℕ) → named o ≡ os → h ≡ hash-of fs q rs → told (record { edge = e; outputs = o; hash = h }) ≡ command-of hashes (state-from fs t ps) e q rs os

@@ -66,8 +66,9 @@ failed q n (Some ms) h = sym (cond-true (fails q) None (Some (map (mark-of q ms)
 -- the outcome that a started command is kept with is the one that the host means
 pub outcome-kept : (fs : Files) (q rs : List ℕ) (n : ℕ) → mapped (marks-from n) (hash-of fs q rs) ≡ outcome-of hashes q n (marks fs rs)
 outcome-kept fs q rs n = elim (cases-bool (fails q)) [
-    inl a ↦ ap (mapped (marks-from n)) (cond-true (fails q) None (hash-from fs (fnv-1a q) rs) a) ∙ failed q n (marks fs rs) a
-  | inr b ↦ ap (mapped (marks-from n)) (cond-false (fails q) None (hash-from fs (fnv-1a q) rs) b ∙ hash-marks fs (fnv-1a q) rs) ∙ fine q n (marks fs rs) b ]
+  | inl a ↦ ap (mapped (marks-from n)) (cond-true (fails q) None (hash-from fs (fnv-1a q) rs) a) ∙ failed q n (marks fs rs) a
+  | inr b ↦ ap (mapped (marks-from n)) (cond-false (fails q) None (hash-from fs (fnv-1a q) rs) b ∙ hash-marks fs (fnv-1a q) rs) ∙ fine q n (marks fs rs) b
+]
 
 some-list : (xs ys : List ℕ) → _≡_ {A = Option (List ℕ)} (Some xs) (Some ys) → xs ≡ ys
 some-list xs ys e = cc
@@ -78,5 +79,6 @@ none-list ys e = let z : _≡_ {A = ℕ} 0 1 = cc in omega arith
 -- a question that does not fail has one mark for each output
 pub hashes-each : (q rs ms : List ℕ) (n : ℕ) → hashes q rs n ≡ Some ms → length ms ≡ n
 hashes-each q rs ms n h = elim (cases-bool (fails q)) [
-    inl a ↦ absurd (none-list ms (sym (cond-true (fails q) None (Some (map (mark-of q rs) (counting 0 n))) a) ∙ h))
-  | inr b ↦ ap length (sym (some-list _ ms (sym (cond-false (fails q) None (Some (map (mark-of q rs) (counting 0 n))) b) ∙ h))) ∙ length-map-counting (mark-of q rs) 0 n ]
+  | inl a ↦ absurd (none-list ms (sym (cond-true (fails q) None (Some (map (mark-of q rs) (counting 0 n))) a) ∙ h))
+  | inr b ↦ ap length (sym (some-list _ ms (sym (cond-false (fails q) None (Some (map (mark-of q rs) (counting 0 n))) b) ∙ h))) ∙ length-map-counting (mark-of q rs) 0 n
+]

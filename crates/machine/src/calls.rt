@@ -12,8 +12,8 @@ ghost use Rattle.std.specs.declared.result.Result.the-variants.{Ok};
 ghost use Rattle.std.specs.declared.option.Option.the-variants.{Some, None};
 ghost use Rattle.std.specs.Of.Vec.{vec-items, vec-len};
 ghost use Rattle.host.specs.State.{pends, edge-at};
-ghost use Rattle.host.specs.Calls.{command-of, started, written, Ends, Breaks-off};
-ghost use Rattle.host.specs.Refusals.{bad-start, start-refusal, write-refusal, clock-answer, tell-answer};
+ghost use Rattle.host.specs.Calls.{command-of, started, written, start-answer, after-start, write-answer, after-write, Ends, Breaks-off};
+ghost use Rattle.host.specs.Refusals.{bad-start, start-refusal, tell-answer};
 ghost use Rattle.machine.specs.Fnv.{hashes};
 ghost use Rattle.machine.specs.Ends.{edge-here, place-of, ending, ending-at, finished, finished-at, break-answer, broken, broken-at, broken-by};
 ghost use Rattle.machine.specs.Machines.{state-of, capacity-of, fresh};
@@ -30,10 +30,15 @@ use std::alloc::Global;
 
 // The clock at which the last start and the last outside write are taken.
 const LAST_CLOCK: u32 = 4_000_000_000;
+
 const MOST_COMMANDS: usize = 64;
+
 const LAST_EDGE: usize = 127;
+
 const MOST_QUESTION: usize = 1024;
+
 const MOST_READS: usize = 64;
+
 const MOST_OUTPUTS: usize = 8;
 
 impl Machine {
@@ -53,7 +58,11 @@ impl Machine {
     {
         let disk = Disk::new(heap)?;
         let pending = Vec::with_capacity(heap, capacity)?;
-        Ok(Machine { disk, pending, capacity })
+        Ok(Machine {
+            disk,
+            pending,
+            capacity,
+        })
     }
 
     pub fn tell(&self, file: usize) -> Result<Option<Stamped>, Refusal>
@@ -90,9 +99,15 @@ impl Machine {
     }
 
     // Starts a command; accepted, the answer is the risen clock.
-    pub fn start(&mut self, edge: usize, question: &[u8], reads: &[usize], outputs: &[usize]) -> Result<u32, Refusal>
-        ensures answer { λ r. ⌜ r ≡ clock-answer (start-refusal (capacity-of (now (self .entry))) (state-of (now (self .entry))) edge (now (question .entry)) (now (reads .entry)) (now (outputs .entry))) (state-of (now (self .entry))) ⌝ }
-        ensures after { λ _. ⌜ state-of (now (self .exit)) ≡ started (start-refusal (capacity-of (now (self .entry))) (state-of (now (self .entry))) edge (now (question .entry)) (now (reads .entry)) (now (outputs .entry))) (state-of (now (self .entry))) (command-of hashes (state-of (now (self .entry))) edge (now (question .entry)) (now (reads .entry)) (now (outputs .entry))) ⌝ }
+    pub fn start(
+        &mut self,
+        edge: usize,
+        question: &[u8],
+        reads: &[usize],
+        outputs: &[usize],
+    ) -> Result<u32, Refusal>
+        ensures answer { λ r. ⌜ r ≡ start-answer (capacity-of (now (self .entry))) (state-of (now (self .entry))) edge (now (question .entry)) (now (reads .entry)) (now (outputs .entry)) ⌝ }
+        ensures after { λ _. ⌜ state-of (now (self .exit)) ≡ after-start (capacity-of (now (self .entry))) hashes (state-of (now (self .entry))) edge (now (question .entry)) (now (reads .entry)) (now (outputs .entry)) ⌝ }
         ensures kept { λ r. ⌜ (isOk r ≡ false → now (self .exit) ≡ now (self .entry)) ⌝ }
         ensures capacity { λ _. ⌜ capacity-of (now (self .exit)) ≡ capacity-of (now (self .entry)) ⌝ }
     {
@@ -103,7 +118,13 @@ impl Machine {
     }
 
     // The first refusal that fits a start.
-    fn refusal(&self, edge: usize, question: &[u8], reads: &[usize], outputs: &[usize]) -> Option<Refusal>
+    fn refusal(
+        &self,
+        edge: usize,
+        question: &[u8],
+        reads: &[usize],
+        outputs: &[usize],
+    ) -> Option<Refusal>
         ensures { λ r. ⌜ r ≡ start-refusal (capacity-of (now (self .entry))) (state-of (now (self .entry))) edge (now (question .entry)) (now (reads .entry)) (now (outputs .entry)) ⌝ }
     {
         if self.is_bad(edge, question, reads, outputs) {
@@ -143,7 +164,11 @@ impl Machine {
         let hash = self.disk.hash_of(question, reads);
         let outputs = Outputs::new(outputs);
         self.disk.rise();
-        self.pending.push_reserved(Pending { edge, outputs, hash });
+        self.pending.push_reserved(Pending {
+            edge,
+            outputs,
+            hash,
+        });
         self.disk.clock
     }
 
@@ -170,7 +195,10 @@ impl Machine {
     {
         let command = self.pending.remove(place);
         self.disk.leave(&command, rewrites);
-        Ended { edge: command.edge, good: command.hash.is_some() }
+        Ended {
+            edge: command.edge,
+            good: command.hash.is_some(),
+        }
     }
 
     // Removes the edge's command with its outputs, and says whether there was one.
@@ -215,8 +243,8 @@ impl Machine {
 
     // A write from outside.
     pub fn outside_write(&mut self, file: usize, mark: Option<u32>) -> Result<u32, Refusal>
-        ensures answer { λ r. ⌜ r ≡ clock-answer (write-refusal (state-of (now (self .entry))) file) (state-of (now (self .entry))) ⌝ }
-        ensures after { λ _. ⌜ state-of (now (self .exit)) ≡ written (write-refusal (state-of (now (self .entry))) file) (state-of (now (self .entry))) file mark ⌝ }
+        ensures answer { λ r. ⌜ r ≡ write-answer (state-of (now (self .entry))) file ⌝ }
+        ensures after { λ _. ⌜ state-of (now (self .exit)) ≡ after-write (state-of (now (self .entry))) file mark ⌝ }
         ensures kept { λ r. ⌜ (isOk r ≡ false → now (self .exit) ≡ now (self .entry)) ⌝ }
         ensures capacity { λ _. ⌜ capacity-of (now (self .exit)) ≡ capacity-of (now (self .entry)) ⌝ }
     {

@@ -7,6 +7,7 @@ ghost use lib.ListN.{length};
 ghost use Rattle.machine.specs.Fnv.{fnv-step, fnv-more, fnv-1a, fails, command-text};
 
 const OFFSET: u32 = 2_166_136_261;
+
 const PRIME: u32 = 16_777_619;
 
 // The hash of some bytes.
@@ -38,7 +39,11 @@ pub(crate) fn step(hash: u32, byte: u8) -> u32
 pub(crate) fn is_failing(question: &[u8]) -> bool
     ensures { λ r. ⌜ r ≡ fails (now (question .entry)) ⌝ }
 {
-    question.len() > 3 && question[0] == b'f' && question[1] == b'a' && question[2] == b'i' && question[3] == b'l'
+    question.len() > 3
+        && question[0] == b'f'
+        && question[1] == b'a'
+        && question[2] == b'i'
+        && question[3] == b'l'
 }
 
 // How many bytes the question's command has.

@@ -8,6 +8,7 @@ mod machine;
 mod outcome;
 mod outputs;
 mod writes;
-pub use machine::Machine;
+
 pub use fnv::command_len;
 pub use fnv::fnv1a;
+pub use machine::Machine;

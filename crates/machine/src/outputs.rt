@@ -17,6 +17,9 @@ impl Outputs {
         for i in 0..files.len() {
             table[i] = files[i] as u8;
         }
-        Outputs { files: table, count: files.len() }
+        Outputs {
+            files: table,
+            count: files.len(),
+        }
     }
 }

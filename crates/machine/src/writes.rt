@@ -30,7 +30,10 @@ impl Disk {
     pub(crate) fn new(heap: Global) -> Result<Disk, AllocError>
         ensures { λ r. ⌜ made r (λ d. volume d ≡ record { files = replicate 256 None; clock = 0 }) ⌝ }
     {
-        Ok(Disk { files: blank(heap)?, clock: 0 })
+        Ok(Disk {
+            files: blank(heap)?,
+            clock: 0,
+        })
     }
 
     pub(crate) fn tell(&self, file: usize) -> Result<Option<Stamped>, Refusal>
@@ -63,7 +66,10 @@ impl Disk {
     {
         self.rise();
         self.files[file] = match mark {
-            Some(mark) => Some(Stamped { stamp: self.clock, mark }),
+            Some(mark) => Some(Stamped {
+                stamp: self.clock,
+                mark,
+            }),
             None => None,
         };
     }

@@ -23,22 +23,25 @@ module _ {X : Type 0} (before : X → X → Bool)
   -- before is transitive
   chain : (x y z : X) → before x y ≡ true → before y z ≡ true → before x z ≡ true
   chain x y z p q = elim (cases-bool (before x z)) [
-      inl a ↦ a
-    | inr b ↦ absurd (both-ways (before x y) (steps x z y b (asym y z q)) p) ]
+    | inl a ↦ a
+    | inr b ↦ absurd (both-ways (before x y) (steps x z y b (asym y z q)) p)
+  ]
 
   -- what comes before x, which y does not come before, comes before y
   chain-not : (x y z : X) → before x y ≡ true → before z y ≡ false → before x z ≡ true
   chain-not x y z p q = elim (cases-bool (before x z)) [
-      inl a ↦ a
-    | inr b ↦ absurd (both-ways (before x y) (steps x z y b q) p) ]
+    | inl a ↦ a
+    | inr b ↦ absurd (both-ways (before x y) (steps x z y b q) p)
+  ]
 
   pub so-far-one : (xs : List X) → 0 < length xs → SoFar before xs 1 0
   so-far-one [] h = absurd (omega arith)
   so-far-one (x ∷ xs) h = record {
-      within = omega arith;
-      unpreceded = λ k d l. below-more (λ k. before (getD (x ∷ xs) k d) x ≡ false) 0 (λ k z. absurd (omega arith)) (itself x) k l;
-      first = λ k d z. absurd (omega arith);
-      answer = λ d. refl }
+    within = omega arith;
+    unpreceded = λ k d l. below-more (λ k. before (getD (x ∷ xs) k d) x ≡ false) 0 (λ k z. absurd (omega arith)) (itself x) k l;
+    first = λ k d z. absurd (omega arith);
+    answer = λ d. refl;
+  }
 
   answer-more : (xs : List X) (n r s : ℕ) (d : X) → n < length xs → (b : Bool) → before (getD xs n d) (getD xs r d) ≡ b → s ≡ cond b n r → earliest-from before (getD xs s d) s (n + 1) (drop (n + 1) xs) ≡ earliest-from before (getD xs r d) r n (drop n xs)
   answer-more xs n r s d l true t e =
@@ -57,7 +60,8 @@ module _ {X : Type 0} (before : X → X → Bool)
         within = omega arith;
         unpreceded = λ k d l. below-more (λ k. before (getD xs k d) (getD xs n d) ≡ false) n (λ k z. steps _ _ _ (h .unpreceded k d z) (asym _ _ (at d))) (itself (getD xs n d)) k l;
         first = λ k d z. chain-not _ _ _ (at d) (h .unpreceded k d z);
-        answer = λ d. ap (λ (z : ℕ). Some z) (answer-more xs n r n d nl true (at d) refl) ∙ h .answer d }
+        answer = λ d. ap (λ (z : ℕ). Some z) (answer-more xs n r n d nl true (at d) refl) ∙ h .answer d;
+      }
 
   -- it does not
   pub so-far-keeps : (xs : List X) (n r : ℕ) (x y : X) → n < length xs → x ≡ getD xs n x → y ≡ getD xs r y → false ≡ before x y → SoFar before xs n r → SoFar before xs (n + 1) r
@@ -68,7 +72,8 @@ module _ {X : Type 0} (before : X → X → Bool)
         within = omega arith;
         unpreceded = λ k d l. below-more (λ k. before (getD xs k d) (getD xs r d) ≡ false) n (λ k z. h .unpreceded k d z) (at d) k l;
         first = h .first;
-        answer = λ d. ap (λ (z : ℕ). Some z) (answer-more xs n r r d nl false (at d) refl) ∙ h .answer d }
+        answer = λ d. ap (λ (z : ℕ). Some z) (answer-more xs n r r d nl false (at d) refl) ∙ h .answer d;
+      }
 
   -- all records are looked at
   pub so-far-law : (xs : List X) (n r : ℕ) → length xs ≤ n → n ≤ length xs → SoFar before xs n r → Earliest before xs r
@@ -78,7 +83,8 @@ module _ {X : Type 0} (before : X → X → Bool)
         within = omega arith;
         unpreceded = λ k d z. h .unpreceded k d (omega arith);
         only = λ k d z b. total _ _ (h .unpreceded k d (omega arith)) b;
-        first = h .first }
+        first = h .first;
+      }
 
   pub so-far-place : (xs : List X) (n r : ℕ) → length xs ≤ n → n ≤ length xs → SoFar before xs n r → Some r ≡ earliest-place before xs
   so-far-place [] n r l m h = let w = h .within in absurd (omega arith)

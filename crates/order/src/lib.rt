@@ -41,7 +41,11 @@ fn earlier<T: Ordered>(records: &[T], place: usize, best: usize) -> usize
     requires so_far { ⌜ SoFar (T·Ordered .before) (now records) place best ⌝ }
     ensures { λ r. ⌜ SoFar (T·Ordered .before) (now (records .entry)) (place + 1) r ⌝ }
 {
-    if records[place].is_before(&records[best]) { place } else { best }
+    if records[place].is_before(&records[best]) {
+        place
+    } else {
+        best
+    }
 }
 
 // The place of the first record, which is the earliest of itself.

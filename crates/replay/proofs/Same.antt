@@ -11,8 +11,9 @@ use Rattle.replay.specs.declared.replay.Replay.{Replay}
 pub same-replay : (s : Replay) (m : Machine) (a : capacity-of m ≡ 8) (b : s .from ≤ vec-len (s .endings)) → m ≡ s .machine →
     _≡_ {A = Replay} (record { machine = m; endings = s .endings; from = s .from; capacity = a; within = b }) s
 same-replay s m a b p = λ i. record {
-    machine = p i;
-    endings = s .endings;
-    from = s .from;
-    capacity = isProp→PathP (λ j. capacity-of (p j) ≡ 8) (λ j. search props) a (s .capacity) i;
-    within = isProp→PathP (λ j. s .from ≤ vec-len (s .endings)) (λ j. search props) b (s .within) i }
+  machine = p i;
+  endings = s .endings;
+  from = s .from;
+  capacity = isProp→PathP (λ j. capacity-of (p j) ≡ 8) (λ j. search props) a (s .capacity) i;
+  within = isProp→PathP (λ j. s .from ≤ vec-len (s .endings)) (λ j. search props) b (s .within) i;
+}

@@ -9,8 +9,7 @@ ghost use Rattle.std.specs.Options.{isSome, Cases as BySome};
 ghost use Rattle.std.specs.Of.Vec.{vec-items, vec-len};
 ghost use Rattle.std.specs.declared.option.Option.the-variants.{Some, None};
 ghost use Rattle.host.specs.State.{no-command};
-ghost use Rattle.host.specs.Calls.{command-of, started, written, Polls, Ends, Breaks-off};
-ghost use Rattle.host.specs.Refusals.{start-refusal, write-refusal, clock-answer, tell-answer};
+ghost use Rattle.host.specs.Calls.{start-answer, after-start, write-answer, after-write, Polls, Ends, Breaks-off};
 ghost use Rattle.machine.specs.Fnv.{hashes};
 ghost use Rattle.machine.specs.Ends.{ending, break-answer, broken};
 ghost use Rattle.replay.specs.Turns.{left-after};
@@ -26,9 +25,15 @@ use host::Stamped;
 
 impl Replay {
     // Starts a command on the machine.
-    fn launch(&mut self, edge: usize, question: &[u8], reads: &[usize], outputs: &[usize]) -> Result<u32, Refusal>
-        ensures answer { λ r. ⌜ r ≡ clock-answer (start-refusal 8 (host-of (now (self .entry))) edge (now (question .entry)) (now (reads .entry)) (now (outputs .entry))) (host-of (now (self .entry))) ⌝ }
-        ensures after { λ _. ⌜ host-of (now (self .exit)) ≡ started (start-refusal 8 (host-of (now (self .entry))) edge (now (question .entry)) (now (reads .entry)) (now (outputs .entry))) (host-of (now (self .entry))) (command-of hashes (host-of (now (self .entry))) edge (now (question .entry)) (now (reads .entry)) (now (outputs .entry))) ⌝ }
+    fn launch(
+        &mut self,
+        edge: usize,
+        question: &[u8],
+        reads: &[usize],
+        outputs: &[usize],
+    ) -> Result<u32, Refusal>
+        ensures answer { λ r. ⌜ r ≡ start-answer 8 (host-of (now (self .entry))) edge (now (question .entry)) (now (reads .entry)) (now (outputs .entry)) ⌝ }
+        ensures after { λ _. ⌜ host-of (now (self .exit)) ≡ after-start 8 hashes (host-of (now (self .entry))) edge (now (question .entry)) (now (reads .entry)) (now (outputs .entry)) ⌝ }
         ensures left { λ _. ⌜ rep-of (now (self .exit)) .left ≡ rep-of (now (self .entry)) .left ⌝ }
         ensures kept { λ r. ⌜ (isOk r ≡ false → now (self .exit) ≡ now (self .entry)) ⌝ }
     {
@@ -83,8 +88,8 @@ impl Replay {
 
     // A write from outside, on the machine.
     fn put(&mut self, file: usize, mark: Option<u32>) -> Result<u32, Refusal>
-        ensures answer { λ r. ⌜ r ≡ clock-answer (write-refusal (host-of (now (self .entry))) file) (host-of (now (self .entry))) ⌝ }
-        ensures after { λ _. ⌜ host-of (now (self .exit)) ≡ written (write-refusal (host-of (now (self .entry))) file) (host-of (now (self .entry))) file mark ⌝ }
+        ensures answer { λ r. ⌜ r ≡ write-answer (host-of (now (self .entry))) file ⌝ }
+        ensures after { λ _. ⌜ host-of (now (self .exit)) ≡ after-write (host-of (now (self .entry))) file mark ⌝ }
         ensures left { λ _. ⌜ rep-of (now (self .exit)) .left ≡ rep-of (now (self .entry)) .left ⌝ }
         ensures kept { λ r. ⌜ (isOk r ≡ false → now (self .exit) ≡ now (self .entry)) ⌝ }
     {
@@ -117,9 +122,15 @@ pub impl Host for Replay as ReplayHost {
         self.machine.clock()
     }
 
-    fn start(&mut self, edge: usize, question: &[u8], reads: &[usize], outputs: &[usize]) -> Result<u32, Refusal>
-        ensures answer { λ r. ⌜ r ≡ clock-answer (start-refusal 8 (host-of (now (self .entry))) edge (now (question .entry)) (now (reads .entry)) (now (outputs .entry))) (host-of (now (self .entry))) ⌝ }
-        ensures after { λ _. ⌜ host-of (now (self .exit)) ≡ started (start-refusal 8 (host-of (now (self .entry))) edge (now (question .entry)) (now (reads .entry)) (now (outputs .entry))) (host-of (now (self .entry))) (command-of hashes (host-of (now (self .entry))) edge (now (question .entry)) (now (reads .entry)) (now (outputs .entry))) ⌝ }
+    fn start(
+        &mut self,
+        edge: usize,
+        question: &[u8],
+        reads: &[usize],
+        outputs: &[usize],
+    ) -> Result<u32, Refusal>
+        ensures answer { λ r. ⌜ r ≡ start-answer 8 (host-of (now (self .entry))) edge (now (question .entry)) (now (reads .entry)) (now (outputs .entry)) ⌝ }
+        ensures after { λ _. ⌜ host-of (now (self .exit)) ≡ after-start 8 hashes (host-of (now (self .entry))) edge (now (question .entry)) (now (reads .entry)) (now (outputs .entry)) ⌝ }
         ensures left { λ _. ⌜ rep-of (now (self .exit)) .left ≡ rep-of (now (self .entry)) .left ⌝ }
         ensures kept { λ r. ⌜ (isOk r ≡ false → now (self .exit) ≡ now (self .entry)) ⌝ }
     {
@@ -150,8 +161,8 @@ pub impl Host for Replay as ReplayHost {
     }
 
     fn outside_write(&mut self, file: usize, mark: Option<u32>) -> Result<u32, Refusal>
-        ensures answer { λ r. ⌜ r ≡ clock-answer (write-refusal (host-of (now (self .entry))) file) (host-of (now (self .entry))) ⌝ }
-        ensures after { λ _. ⌜ host-of (now (self .exit)) ≡ written (write-refusal (host-of (now (self .entry))) file) (host-of (now (self .entry))) file mark ⌝ }
+        ensures answer { λ r. ⌜ r ≡ write-answer (host-of (now (self .entry))) file ⌝ }
+        ensures after { λ _. ⌜ host-of (now (self .exit)) ≡ after-write (host-of (now (self .entry))) file mark ⌝ }
         ensures left { λ _. ⌜ rep-of (now (self .exit)) .left ≡ rep-of (now (self .entry)) .left ⌝ }
         ensures kept { λ r. ⌜ (isOk r ≡ false → now (self .exit) ≡ now (self .entry)) ⌝ }
     {

@@ -4,6 +4,7 @@ mod next;
 mod recording;
 mod replay;
 mod turn;
+
 pub use calls::ReplayHost;
 pub use calls::ReplayView;
 pub use recording::Fault;

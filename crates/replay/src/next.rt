@@ -30,7 +30,11 @@ impl Replay {
         };
         let endings = Vec::from_slice(heap, endings)?;
         let machine = Machine::new(heap, CAPACITY)?;
-        Ok(Replay { machine, endings, from: 0 })
+        Ok(Replay {
+            machine,
+            endings,
+            from: 0,
+        })
     }
 
     // The endings that are left, the next one first.
@@ -59,7 +63,10 @@ impl Replay {
         ensures { λ r. ⌜ r ≡ turn-at (rep-of (now (self .entry))) place ⌝ }
     {
         match self.machine.edge_at(place) {
-            Some(edge) => Turn { place: next_ending(self.endings_left(), edge), edge },
+            Some(edge) => Turn {
+                place: next_ending(self.endings_left(), edge),
+                edge,
+            },
             None => Turn { place: 0, edge: 0 },
         }
     }

@@ -20,12 +20,13 @@ pub same-simulator : (s : Simulator) (m : Machine) (a : capacity-of m ≡ 16) (b
     (e : s .tick ≤ 1024 * state-of m .clock) (f : Later-dues s m) → m ≡ s .machine →
     _≡_ {A = Simulator} (record { machine = m; tick = s .tick; dues = s .dues; capacity = a; room = b; paired = c; each = d; now = e; later = f }) s
 same-simulator s m a b c d e f p = λ i. record {
-    machine = p i;
-    tick = s .tick;
-    dues = s .dues;
-    capacity = isProp→PathP (λ j. capacity-of (p j) ≡ 16) (λ j. search props) a (s .capacity) i;
-    room = isProp→PathP (λ j. 16 ≤ vec-cap (s .dues)) (λ j. search props) b (s .room) i;
-    paired = isProp→PathP (λ j. map due-edge (vec-items (s .dues)) ≡ pending-edges (state-of (p j))) (λ j. search props) c (s .paired) i;
-    each = isProp→PathP (λ j. length (state-of (p j) .pending) ≡ vec-len (s .dues)) (λ j. search props) d (s .each) i;
-    now = isProp→PathP (λ j. s .tick ≤ 1024 * state-of (p j) .clock) (λ j. search props) e (s .now) i;
-    later = isProp→PathP (λ j. Later-dues s (p j)) (λ j. search props) f (s .later) i }
+  machine = p i;
+  tick = s .tick;
+  dues = s .dues;
+  capacity = isProp→PathP (λ j. capacity-of (p j) ≡ 16) (λ j. search props) a (s .capacity) i;
+  room = isProp→PathP (λ j. 16 ≤ vec-cap (s .dues)) (λ j. search props) b (s .room) i;
+  paired = isProp→PathP (λ j. map due-edge (vec-items (s .dues)) ≡ pending-edges (state-of (p j))) (λ j. search props) c (s .paired) i;
+  each = isProp→PathP (λ j. length (state-of (p j) .pending) ≡ vec-len (s .dues)) (λ j. search props) d (s .each) i;
+  now = isProp→PathP (λ j. s .tick ≤ 1024 * state-of (p j) .clock) (λ j. search props) e (s .now) i;
+  later = isProp→PathP (λ j. Later-dues s (p j)) (λ j. search props) f (s .later) i;
+}

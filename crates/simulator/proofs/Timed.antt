@@ -42,8 +42,10 @@ timed-start s c bytes le h =
       paired = map-push due-edge (s .dues) d ∙ ap (λ (z : List ℕ). z ++ (c .edge ∷ [])) (h .paired) ∙ sym (map-push (λ (c : Command). c .edge) (s .host .pending) c);
       now = omega (arith, h .now);
       later = λ k l. elim (cases-lt k (length (s .dues))) [
-          inl a ↦ omega (arith, h .later k a, ap (λ (x : Due). x .tick) (getD-append-left (s .dues) (d ∷ []) no-due k a))
-        | inr b ↦ omega (arith, h .now, ap (λ (x : Due). x .tick) (getD-push (s .dues) d no-due k (omega (arith, length-push (s .dues) d)))) ] }
+        | inl a ↦ omega (arith, h .later k a, ap (λ (x : Due). x .tick) (getD-append-left (s .dues) (d ∷ []) no-due k a))
+        | inr b ↦ omega (arith, h .now, ap (λ (x : Due). x .tick) (getD-push (s .dues) d no-due k (omega (arith, length-push (s .dues) d))))
+      ];
+    }
 
 -- the command at a place is gone, and the clock has not fallen
 pub timed-gone : (s : Sim) (k : ℕ) (t : State) (tick : ℕ) (ds : List Due) → k < length (s .dues) → t .pending ≡ removed (s .host .pending) k → ds ≡ removed (s .dues) k → s .host .clock ≤ t .clock → tick ≤ 1024 * s .host .clock → Timed s → Timed (record { host = t; tick = tick; dues = ds })
@@ -53,13 +55,16 @@ timed-gone s k t tick ds l p e up le h =
       paired = map-removed due-edge (s .dues) k ∙ ap (λ (z : List ℕ). removed z k) (h .paired) ∙ sym (map-removed (λ (c : Command). c .edge) (s .host .pending) k) ∙ ap (map (λ (c : Command). c .edge)) (sym p);
       now = omega arith;
       later = λ j lt. elim (cases-lt j k) [
-          inl a ↦ omega (arith, h .later j (omega arith), ap (λ (x : Due). x .tick) (getD-removed-below (s .dues) k no-due j a l))
-        | inr b ↦ omega (arith, h .later (j + 1) (omega arith), ap (λ (x : Due). x .tick) (getD-removed-above (s .dues) k no-due j b l)) ] } in
+        | inl a ↦ omega (arith, h .later j (omega arith), ap (λ (x : Due). x .tick) (getD-removed-below (s .dues) k no-due j a l))
+        | inr b ↦ omega (arith, h .later (j + 1) (omega arith), ap (λ (x : Due). x .tick) (getD-removed-above (s .dues) k no-due j b l))
+      ];
+    } in
     subst (λ (z : List Due). Timed (record { host = t; tick = tick; dues = z })) (sym e) base
 
 -- the commands are the same, and the clock has not fallen
 pub timed-same : (s : Sim) (t : State) → t .pending ≡ s .host .pending → s .host .clock ≤ t .clock → Timed s → Timed (record { host = t; tick = s .tick; dues = s .dues })
 timed-same s t p up h = record {
-    paired = h .paired ∙ ap (map (λ (c : Command). c .edge)) (sym p);
-    now = omega (arith, h .now);
-    later = λ k l. omega (arith, h .later k l) }
+  paired = h .paired ∙ ap (map (λ (c : Command). c .edge)) (sym p);
+  now = omega (arith, h .now);
+  later = λ k l. omega (arith, h .later k l);
+}

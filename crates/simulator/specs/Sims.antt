@@ -11,7 +11,9 @@ use Rattle.std.specs.declared.option.Option.the-variants.{Some, None}
 use Rattle.host.specs.declared.Ended.{Ended}
 use Rattle.host.specs.declared.Refusal.{Refusal}
 use Rattle.host.specs.State.{State, Command}
-use Rattle.host.specs.Calls.{started, written}
+use Rattle.host.specs.Calls.{started, written, command-of}
+use Rattle.host.specs.Refusals.{start-refusal, write-refusal}
+use Rattle.machine.specs.Fnv.{hashes, command-text}
 use Rattle.machine.specs.Ends.{finished, ending, place-of, broken-at}
 use Rattle.machine.specs.Machines.{fresh}
 use Rattle.order.specs.Earliest.{Earliest, earliest-place}
@@ -70,3 +72,11 @@ pub record Due-first (s : Sim) (e : Ended) (t : Sim) : Type 0 where
   pub first : Earliest by-due (s .dues) place
   pub edge : getD (s .dues) place no-due .edge ≡ e .edge
   pub tick : t .tick ≡ getD (s .dues) place no-due .tick
+
+-- the simulator after a start and after an outside write
+abbrev pub sim-after-start : Sim → ℕ → List ℕ → List ℕ → List ℕ → Sim
+sim-after-start s e question reads outputs =
+    sim-started (start-refusal 16 (s .host) e question reads outputs) s (command-of hashes (s .host) e question reads outputs) (length (command-text question))
+
+abbrev pub sim-after-write : Sim → ℕ → Option ℕ → Sim
+sim-after-write s f m = sim-written (write-refusal (s .host) f) s f m

@@ -16,7 +16,11 @@ impl Simulator {
     {
         let machine = Machine::new(heap, CAPACITY)?;
         let dues = Vec::with_capacity(heap, CAPACITY)?;
-        Ok(Simulator { machine, tick: 0, dues })
+        Ok(Simulator {
+            machine,
+            tick: 0,
+            dues,
+        })
     }
 
     // The tick of now.

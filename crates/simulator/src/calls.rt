@@ -8,13 +8,12 @@ ghost use Rattle.std.specs.Results.{isOk};
 ghost use Rattle.std.specs.Options.{Cases as BySome};
 ghost use Rattle.std.specs.Of.Vec.{vec-items, vec-len};
 ghost use Rattle.std.specs.declared.option.Option.the-variants.{Some, None};
-ghost use Rattle.host.specs.Calls.{command-of, started, written, Polls, Ends, Breaks-off};
-ghost use Rattle.host.specs.Refusals.{start-refusal, write-refusal, clock-answer, tell-answer};
-ghost use Rattle.machine.specs.Fnv.{hashes, command-text};
+ghost use Rattle.host.specs.Calls.{start-answer, after-start, write-answer, after-write, Polls, Ends, Breaks-off};
+ghost use Rattle.machine.specs.Fnv.{hashes};
 ghost use Rattle.machine.specs.Ends.{ending, break-answer, place-of};
 ghost use Rattle.order.specs.Earliest.{earliest-place};
 ghost use Rattle.simulator.specs.Dues.{by-due, no-due};
-ghost use Rattle.simulator.specs.Sims.{sim-started, sim-ended, sim-polled, sim-answer, sim-broken, sim-written, Due-first};
+ghost use Rattle.simulator.specs.Sims.{sim-after-start, sim-ended, sim-polled, sim-answer, sim-broken, sim-after-write, Due-first};
 ghost use Rattle.simulator.specs.Simulators.{sim-of, host-of};
 use crate::due::Due;
 use crate::due::DueOrdered;
@@ -30,10 +29,16 @@ use order::earliest;
 
 impl Simulator {
     // Starts a command on the machine; accepted, it is due after a tick for each byte of its text.
-    fn launch(&mut self, edge: usize, question: &[u8], reads: &[usize], outputs: &[usize]) -> Result<u32, Refusal>
-        ensures answer { λ r. ⌜ r ≡ clock-answer (start-refusal 16 (host-of (now (self .entry))) edge (now (question .entry)) (now (reads .entry)) (now (outputs .entry))) (host-of (now (self .entry))) ⌝ }
-        ensures after { λ _. ⌜ host-of (now (self .exit)) ≡ started (start-refusal 16 (host-of (now (self .entry))) edge (now (question .entry)) (now (reads .entry)) (now (outputs .entry))) (host-of (now (self .entry))) (command-of hashes (host-of (now (self .entry))) edge (now (question .entry)) (now (reads .entry)) (now (outputs .entry))) ⌝ }
-        ensures exact { λ _. ⌜ sim-of (now (self .exit)) ≡ sim-started (start-refusal 16 (host-of (now (self .entry))) edge (now (question .entry)) (now (reads .entry)) (now (outputs .entry))) (sim-of (now (self .entry))) (command-of hashes (host-of (now (self .entry))) edge (now (question .entry)) (now (reads .entry)) (now (outputs .entry))) (length (command-text (now (question .entry)))) ⌝ }
+    fn launch(
+        &mut self,
+        edge: usize,
+        question: &[u8],
+        reads: &[usize],
+        outputs: &[usize],
+    ) -> Result<u32, Refusal>
+        ensures answer { λ r. ⌜ r ≡ start-answer 16 (host-of (now (self .entry))) edge (now (question .entry)) (now (reads .entry)) (now (outputs .entry)) ⌝ }
+        ensures after { λ _. ⌜ host-of (now (self .exit)) ≡ after-start 16 hashes (host-of (now (self .entry))) edge (now (question .entry)) (now (reads .entry)) (now (outputs .entry)) ⌝ }
+        ensures exact { λ _. ⌜ sim-of (now (self .exit)) ≡ sim-after-start (sim-of (now (self .entry))) edge (now (question .entry)) (now (reads .entry)) (now (outputs .entry)) ⌝ }
         ensures kept { λ r. ⌜ (isOk r ≡ false → now (self .exit) ≡ now (self .entry)) ⌝ }
     {
         match self.machine.start(edge, question, reads, outputs) {
@@ -81,8 +86,8 @@ impl Simulator {
 
     // A write from outside, on the machine.
     fn put(&mut self, file: usize, mark: Option<u32>) -> Result<u32, Refusal>
-        ensures answer { λ r. ⌜ r ≡ clock-answer (write-refusal (host-of (now (self .entry))) file) (host-of (now (self .entry))) ⌝ }
-        ensures after { λ _. ⌜ sim-of (now (self .exit)) ≡ sim-written (write-refusal (host-of (now (self .entry))) file) (sim-of (now (self .entry))) file mark ⌝ }
+        ensures answer { λ r. ⌜ r ≡ write-answer (host-of (now (self .entry))) file ⌝ }
+        ensures after { λ _. ⌜ sim-of (now (self .exit)) ≡ sim-after-write (sim-of (now (self .entry))) file mark ⌝ }
         ensures kept { λ r. ⌜ (isOk r ≡ false → now (self .exit) ≡ now (self .entry)) ⌝ }
     {
         self.machine.outside_write(file, mark)
@@ -116,10 +121,16 @@ pub impl Host for Simulator as SimulatorHost {
         self.machine.clock()
     }
 
-    fn start(&mut self, edge: usize, question: &[u8], reads: &[usize], outputs: &[usize]) -> Result<u32, Refusal>
-        ensures answer { λ r. ⌜ r ≡ clock-answer (start-refusal 16 (host-of (now (self .entry))) edge (now (question .entry)) (now (reads .entry)) (now (outputs .entry))) (host-of (now (self .entry))) ⌝ }
-        ensures after { λ _. ⌜ host-of (now (self .exit)) ≡ started (start-refusal 16 (host-of (now (self .entry))) edge (now (question .entry)) (now (reads .entry)) (now (outputs .entry))) (host-of (now (self .entry))) (command-of hashes (host-of (now (self .entry))) edge (now (question .entry)) (now (reads .entry)) (now (outputs .entry))) ⌝ }
-        ensures exact { λ _. ⌜ sim-of (now (self .exit)) ≡ sim-started (start-refusal 16 (host-of (now (self .entry))) edge (now (question .entry)) (now (reads .entry)) (now (outputs .entry))) (sim-of (now (self .entry))) (command-of hashes (host-of (now (self .entry))) edge (now (question .entry)) (now (reads .entry)) (now (outputs .entry))) (length (command-text (now (question .entry)))) ⌝ }
+    fn start(
+        &mut self,
+        edge: usize,
+        question: &[u8],
+        reads: &[usize],
+        outputs: &[usize],
+    ) -> Result<u32, Refusal>
+        ensures answer { λ r. ⌜ r ≡ start-answer 16 (host-of (now (self .entry))) edge (now (question .entry)) (now (reads .entry)) (now (outputs .entry)) ⌝ }
+        ensures after { λ _. ⌜ host-of (now (self .exit)) ≡ after-start 16 hashes (host-of (now (self .entry))) edge (now (question .entry)) (now (reads .entry)) (now (outputs .entry)) ⌝ }
+        ensures exact { λ _. ⌜ sim-of (now (self .exit)) ≡ sim-after-start (sim-of (now (self .entry))) edge (now (question .entry)) (now (reads .entry)) (now (outputs .entry)) ⌝ }
         ensures kept { λ r. ⌜ (isOk r ≡ false → now (self .exit) ≡ now (self .entry)) ⌝ }
     {
         self.launch(edge, question, reads, outputs)
@@ -148,9 +159,9 @@ pub impl Host for Simulator as SimulatorHost {
     }
 
     fn outside_write(&mut self, file: usize, mark: Option<u32>) -> Result<u32, Refusal>
-        ensures answer { λ r. ⌜ r ≡ clock-answer (write-refusal (host-of (now (self .entry))) file) (host-of (now (self .entry))) ⌝ }
-        ensures after { λ _. ⌜ host-of (now (self .exit)) ≡ written (write-refusal (host-of (now (self .entry))) file) (host-of (now (self .entry))) file mark ⌝ }
-        ensures exact { λ _. ⌜ sim-of (now (self .exit)) ≡ sim-written (write-refusal (host-of (now (self .entry))) file) (sim-of (now (self .entry))) file mark ⌝ }
+        ensures answer { λ r. ⌜ r ≡ write-answer (host-of (now (self .entry))) file ⌝ }
+        ensures after { λ _. ⌜ host-of (now (self .exit)) ≡ after-write (host-of (now (self .entry))) file mark ⌝ }
+        ensures exact { λ _. ⌜ sim-of (now (self .exit)) ≡ sim-after-write (sim-of (now (self .entry))) file mark ⌝ }
         ensures kept { λ r. ⌜ (isOk r ≡ false → now (self .exit) ≡ now (self .entry)) ⌝ }
     {
         self.put(file, mark)

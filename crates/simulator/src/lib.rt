@@ -3,6 +3,7 @@ mod begin;
 mod calls;
 mod due;
 mod simulator;
+
 pub use calls::SimulatorHost;
 pub use calls::SimulatorView;
 pub use due::Due;

@@ -43,10 +43,28 @@ fn recorded_order(rt: LibcRuntime) -> Result<(), Fail> {
     };
     check_eq(day.start(3, b"a", &[], &[3]), Ok(1))?;
     check_eq(day.start(5, b"a long one", &[], &[5]), Ok(2))?;
-    check_eq(day.poll(), Some(Ended { edge: 5, good: true }))?;
+    check_eq(
+        day.poll(),
+        Some(Ended {
+            edge: 5,
+            good: true,
+        }),
+    )?;
     check_eq(day.start(5, b"again", &[], &[5]), Ok(4))?;
-    check_eq(day.poll(), Some(Ended { edge: 3, good: true }))?;
-    check_eq(day.poll(), Some(Ended { edge: 5, good: true }))?;
+    check_eq(
+        day.poll(),
+        Some(Ended {
+            edge: 3,
+            good: true,
+        }),
+    )?;
+    check_eq(
+        day.poll(),
+        Some(Ended {
+            edge: 5,
+            good: true,
+        }),
+    )?;
     check_eq(day.endings_left().len(), 0)
 }
 
@@ -58,10 +76,22 @@ fn lowest_where_none_is_listed(rt: LibcRuntime) -> Result<(), Fail> {
     };
     check_eq(day.start(7, b"a", &[], &[3]), Ok(1))?;
     check_eq(day.start(4, b"b", &[], &[4]), Ok(2))?;
-    check_eq(day.poll(), Some(Ended { edge: 4, good: true }))?;
+    check_eq(
+        day.poll(),
+        Some(Ended {
+            edge: 4,
+            good: true,
+        }),
+    )?;
     check_eq(day.endings_left().len(), 2)?;
     check_eq(day.start(2, b"c", &[], &[5]), Ok(4))?;
-    check_eq(day.poll(), Some(Ended { edge: 2, good: true }))?;
+    check_eq(
+        day.poll(),
+        Some(Ended {
+            edge: 2,
+            good: true,
+        }),
+    )?;
     check_eq(day.endings_left().len(), 0)
 }
 
@@ -72,10 +102,28 @@ fn always_writes(rt: LibcRuntime) -> Result<(), Fail> {
         Err(_) => return Err(Fail::new("no replay")),
     };
     check_eq(day.start(3, b"ab", &[], &[3]), Ok(1))?;
-    check_eq(day.poll(), Some(Ended { edge: 3, good: true }))?;
+    check_eq(
+        day.poll(),
+        Some(Ended {
+            edge: 3,
+            good: true,
+        }),
+    )?;
     check_eq(day.start(3, b"ab", &[], &[3]), Ok(3))?;
-    check_eq(day.poll(), Some(Ended { edge: 3, good: true }))?;
-    check_eq(day.tell(3), Ok(Some(Stamped { stamp: 4, mark: 994581758 })))
+    check_eq(
+        day.poll(),
+        Some(Ended {
+            edge: 3,
+            good: true,
+        }),
+    )?;
+    check_eq(
+        day.tell(3),
+        Ok(Some(Stamped {
+            stamp: 4,
+            mark: 994581758,
+        })),
+    )
 }
 
 #[test]

@@ -21,23 +21,71 @@ fn shorter_text_ends_first(rt: LibcRuntime) -> Result<(), Fail> {
     check_eq(sim.outside_write(0, Some(7)), Ok(1))?;
     check_eq(sim.start(5, b"sum\0x", &[0], &[1, 2]), Ok(2))?;
     check_eq(sim.start(3, b"ab", &[], &[3]), Ok(3))?;
-    check_eq(sim.poll(), Some(Ended { edge: 3, good: true }))?;
+    check_eq(
+        sim.poll(),
+        Some(Ended {
+            edge: 3,
+            good: true,
+        }),
+    )?;
     check_eq(sim.tick(), 2)?;
-    check_eq(sim.tell(3), Ok(Some(Stamped { stamp: 4, mark: 994581758 })))?;
-    check_eq(sim.poll(), Some(Ended { edge: 5, good: true }))?;
+    check_eq(
+        sim.tell(3),
+        Ok(Some(Stamped {
+            stamp: 4,
+            mark: 994581758,
+        })),
+    )?;
+    check_eq(
+        sim.poll(),
+        Some(Ended {
+            edge: 5,
+            good: true,
+        }),
+    )?;
     check_eq(sim.tick(), 3)?;
-    check_eq(sim.tell(1), Ok(Some(Stamped { stamp: 5, mark: 1490459733 })))?;
-    check_eq(sim.tell(2), Ok(Some(Stamped { stamp: 6, mark: 1473682114 })))
+    check_eq(
+        sim.tell(1),
+        Ok(Some(Stamped {
+            stamp: 5,
+            mark: 1490459733,
+        })),
+    )?;
+    check_eq(
+        sim.tell(2),
+        Ok(Some(Stamped {
+            stamp: 6,
+            mark: 1473682114,
+        })),
+    )
 }
 
 #[test]
 fn equal_mark_keeps_its_stamp(rt: LibcRuntime) -> Result<(), Fail> {
     let mut sim = Simulator::new(rt.alloc())?;
     check_eq(sim.start(3, b"ab", &[], &[3]), Ok(1))?;
-    check_eq(sim.poll(), Some(Ended { edge: 3, good: true }))?;
+    check_eq(
+        sim.poll(),
+        Some(Ended {
+            edge: 3,
+            good: true,
+        }),
+    )?;
     check_eq(sim.start(3, b"ab", &[], &[3]), Ok(3))?;
-    check_eq(sim.poll(), Some(Ended { edge: 3, good: true }))?;
-    check_eq(sim.tell(3), Ok(Some(Stamped { stamp: 2, mark: 994581758 })))?;
+    check_eq(
+        sim.poll(),
+        Some(Ended {
+            edge: 3,
+            good: true,
+        }),
+    )?;
+    check_eq(
+        sim.tell(3),
+        Ok(Some(Stamped {
+            stamp: 2,
+            mark: 994581758,
+        })),
+    )?;
     check_eq(sim.clock(), 3)
 }
 
@@ -46,8 +94,20 @@ fn low_byte_of_a_mark_first(rt: LibcRuntime) -> Result<(), Fail> {
     let mut sim = Simulator::new(rt.alloc())?;
     check_eq(sim.outside_write(9, Some(0x0102_0304)), Ok(1))?;
     check_eq(sim.start(1, b"z", &[9], &[10]), Ok(2))?;
-    check_eq(sim.poll(), Some(Ended { edge: 1, good: true }))?;
-    check_eq(sim.tell(10), Ok(Some(Stamped { stamp: 3, mark: 773962887 })))
+    check_eq(
+        sim.poll(),
+        Some(Ended {
+            edge: 1,
+            good: true,
+        }),
+    )?;
+    check_eq(
+        sim.tell(10),
+        Ok(Some(Stamped {
+            stamp: 3,
+            mark: 773962887,
+        })),
+    )
 }
 
 #[test]
@@ -55,7 +115,13 @@ fn failure_and_break_off_remove(rt: LibcRuntime) -> Result<(), Fail> {
     let mut sim = Simulator::new(rt.alloc())?;
     check_eq(sim.outside_write(1, Some(4)), Ok(1))?;
     check_eq(sim.start(9, b"fail now", &[], &[1]), Ok(2))?;
-    check_eq(sim.poll(), Some(Ended { edge: 9, good: false }))?;
+    check_eq(
+        sim.poll(),
+        Some(Ended {
+            edge: 9,
+            good: false,
+        }),
+    )?;
     check_eq(sim.tell(1), Ok(None))?;
     check_eq(sim.outside_write(2, Some(4)), Ok(3))?;
     check_eq(sim.start(8, b"cut", &[], &[2]), Ok(4))?;
@@ -71,7 +137,13 @@ fn absent_read_fails(rt: LibcRuntime) -> Result<(), Fail> {
     let mut sim = Simulator::new(rt.alloc())?;
     check_eq(sim.start(0, b"sum", &[4], &[5]), Ok(1))?;
     check_eq(sim.outside_write(4, Some(1)), Ok(2))?;
-    check_eq(sim.poll(), Some(Ended { edge: 0, good: false }))
+    check_eq(
+        sim.poll(),
+        Some(Ended {
+            edge: 0,
+            good: false,
+        }),
+    )
 }
 
 #[test]
@@ -79,8 +151,20 @@ fn tie_goes_to_the_lower_edge(rt: LibcRuntime) -> Result<(), Fail> {
     let mut sim = Simulator::new(rt.alloc())?;
     check_eq(sim.start(8, b"xy", &[], &[1]), Ok(1))?;
     check_eq(sim.start(2, b"ab", &[], &[2]), Ok(2))?;
-    check_eq(sim.poll(), Some(Ended { edge: 2, good: true }))?;
-    check_eq(sim.poll(), Some(Ended { edge: 8, good: true }))
+    check_eq(
+        sim.poll(),
+        Some(Ended {
+            edge: 2,
+            good: true,
+        }),
+    )?;
+    check_eq(
+        sim.poll(),
+        Some(Ended {
+            edge: 8,
+            good: true,
+        }),
+    )
 }
 
 #[test]

@@ -12,9 +12,10 @@ loop-edge-again g c =
     let before = g .B·Host .state (c .loop-edge .host) in
     let after = g .B·Host .state (c .break-off .last .self) in
     let r = c .break-off .result in
-    let p = c .break-off .ensures .breaks in
-    (breaks-more _ _ before r after (c .loop-edge .inv .0) p,
-     quiet-more before (c .loop-edge .edge) r after (omega arith) (g .B·Host·met .lawful (c .loop-edge .host) .distinct) p (c .loop-edge .inv .1))
+    let p = c .break-off .ensures .breaks in (
+      breaks-more _ _ before r after (c .loop-edge .inv .0) p,
+      quiet-more before (c .loop-edge .edge) r after (omega arith) (g .B·Host·met .lawful (c .loop-edge .host) .distinct) p (c .loop-edge .inv .1),
+    )
 
 pub returns : need.returns
 returns g c =
@@ -26,4 +27,5 @@ returns g c =
       each = all;
       none = none-pend (after .pending) (g .B·Host·met .lawful (c .loop-edge .host) .small) (λ x h. c .loop-edge .inv .1 x (omega arith));
       later = later-breaks 128 before after all;
-      law = unwritten-kept }
+      law = unwritten-kept;
+    }

@@ -8,4 +8,5 @@ returns g c =
     let law = g .T·Ordered·met in
     record {
       place = so-far-place _ (law .asym) (law .steps) (law .total) _ _ _ (omega arith) (omega arith) (c .loop-i .inv);
-      law = so-far-law _ (law .asym) (law .steps) (law .total) _ _ _ (omega arith) (omega arith) (c .loop-i .inv) }
+      law = so-far-law _ (law .asym) (law .steps) (law .total) _ _ _ (omega arith) (omega arith) (c .loop-i .inv);
+    }

@@ -11,9 +11,10 @@ pub cast-table : need.cast-table
 cast-table c = let h = strays-none (c .args .files .now) (c .loop-i .i) (c .pre .within) (c .loop-i-test .taken) in search needs
 
 pub loop-i-again : need.loop-i-again
-loop-i-again c =
-    (length-set _ _ _ ∙ c .loop-i .inv .0,
-     copy-more (c .loop-i .table) (c .args .files .now) (c .loop-i .i) (omega (arith, c .loop-i .inv .0, c .pre .few)) (c .loop-i-test .taken) (c .loop-i .inv .1))
+loop-i-again c = (
+  length-set _ _ _ ∙ c .loop-i .inv .0,
+  copy-more (c .loop-i .table) (c .args .files .now) (c .loop-i .i) (omega (arith, c .loop-i .inv .0, c .pre .few)) (c .loop-i-test .taken) (c .loop-i .inv .1),
+)
 
 pub returns : need.returns
 returns c =

@@ -10,5 +10,5 @@ use Rattle.machine.proofs.disk.Disk.settle_all.Given as given
 abbrev pub Inv-loop-i : given.InvT-loop-i
 Inv-loop-i l =
     (all-settled (l .rewrites) (volume (l .self)) (drop (l .i) (named (l .outputs))) (drop (l .i) (marks-from (l .outputs .count) (l .hash)))
-      ≡ all-settled (l .rewrites) (volume (l .entry .self)) (named (l .outputs)) (marks-from (l .outputs .count) (l .hash)))
+    ≡ all-settled (l .rewrites) (volume (l .entry .self)) (named (l .outputs)) (marks-from (l .outputs .count) (l .hash)))
     × (l .self .clock ≤ l .entry .self .clock + l .i)

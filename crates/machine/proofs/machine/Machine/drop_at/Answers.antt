@@ -18,9 +18,22 @@ ghost-self c =
     let lt : c .args .place < length ps = omega (arith, self .pending .ok .0, c .pre) in
     let p = c .remove-command .result in
     let n = c .remove-command .ensures .len in
-    let t = left-clock false (volume (self .disk)) (volume (c .remove-all .last .self)) p None (held (self .lawful) .stamps) (c .remove-all .ensures) in
-    (self .small, (search needs, (omega (arith, n, self .few), (omega (arith, n, t, self .clock), (each-counted _ _ (c .remove-command .last .self .ok .0),
-     (left-lawful (self .capacity) false (volume (self .disk)) (volume (c .remove-all .last .self)) ps _ (c .args .place) p None lt (c .remove-command .ensures .items) (c .remove-all .ensures) (self .lawful), tt))))))
+    let t = left-clock false (volume (self .disk)) (volume (c .remove-all .last .self)) p None (held (self .lawful) .stamps) (c .remove-all .ensures) in (
+      self .small,
+      (
+        search needs,
+        (
+          omega (arith, n, self .few),
+          (
+            omega (arith, n, t, self .clock),
+            (
+              each-counted _ _ (c .remove-command .last .self .ok .0),
+              (left-lawful (self .capacity) false (volume (self .disk)) (volume (c .remove-all .last .self)) ps _ (c .args .place) p None lt (c .remove-command .ensures .items) (c .remove-all .ensures) (self .lawful), tt),
+            ),
+          ),
+        ),
+      ),
+    )
 
 pub returns : need.returns
 returns c =
@@ -29,4 +42,5 @@ returns c =
     let lt : c .args .place < length ps = omega (arith, self .pending .ok .0, c .pre) in
     record {
       after = drop-state (volume (self .disk)) (volume (c .remove-all .last .self)) ps _ (c .args .place) (c .remove-command .result) lt (c .remove-command .ensures .value) (c .remove-command .ensures .items) (c .remove-all .ensures);
-      capacity = search needs }
+      capacity = search needs;
+    }

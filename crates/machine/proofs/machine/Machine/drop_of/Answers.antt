@@ -20,7 +20,8 @@ returns-in-None c =
       answer = ap isSome (c .in-None .ensures tt);
       after = ap (broken-by s) (c .in-None .ensures tt);
       breaks = λ l. breaks-none s s (c .args .edge) (c .in-None .ensures tt) refl l;
-      capacity = search needs }
+      capacity = search needs;
+    }
 
 pub returns-in-Some : need.returns-in-Some
 returns-in-Some c =
@@ -30,4 +31,5 @@ returns-in-Some c =
       answer = ap isSome (c .in-Some .ensures tt);
       after = c .drop-at .ensures .after ∙ ap (broken-by s) (c .in-Some .ensures tt);
       breaks = λ l. breaks-some (vec-items (self .disk .files)) (self .disk .clock) (vec-items (self .pending)) _ (c .args .edge) (c .in-Some .place) (c .in-Some .ensures tt) (c .drop-at .ensures .after) l;
-      capacity = search needs }
+      capacity = search needs;
+    }

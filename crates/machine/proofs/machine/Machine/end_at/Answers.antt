@@ -18,9 +18,22 @@ ghost-self c =
     let lt : c .args .place < length ps = omega (arith, self .pending .ok .0, c .pre) in
     let p = c .remove-command .result in
     let n = c .remove-command .ensures .len in
-    let t = left-clock (c .args .rewrites) (volume (self .disk)) (volume (c .leave .last .self)) p (told p .outcome) (held (self .lawful) .stamps) (c .leave .ensures) in
-    (self .small, (search needs, (omega (arith, n, self .few), (omega (arith, n, t, self .clock), (each-counted _ _ (c .remove-command .last .self .ok .0),
-     (left-lawful (self .capacity) (c .args .rewrites) (volume (self .disk)) (volume (c .leave .last .self)) ps _ (c .args .place) p (told p .outcome) lt (c .remove-command .ensures .items) (c .leave .ensures) (self .lawful), tt))))))
+    let t = left-clock (c .args .rewrites) (volume (self .disk)) (volume (c .leave .last .self)) p (told p .outcome) (held (self .lawful) .stamps) (c .leave .ensures) in (
+      self .small,
+      (
+        search needs,
+        (
+          omega (arith, n, self .few),
+          (
+            omega (arith, n, t, self .clock),
+            (
+              each-counted _ _ (c .remove-command .last .self .ok .0),
+              (left-lawful (self .capacity) (c .args .rewrites) (volume (self .disk)) (volume (c .leave .last .self)) ps _ (c .args .place) p (told p .outcome) lt (c .remove-command .ensures .items) (c .leave .ensures) (self .lawful), tt),
+            ),
+          ),
+        ),
+      ),
+    )
 
 pub returns : need.returns
 returns c =
@@ -35,4 +48,5 @@ returns c =
       answer = answer;
       after = after;
       ends = ends-as (state-of self) _ _ _ _ answer after (finished-ends (c .args .rewrites) (vec-items (self .disk .files)) (self .disk .clock) ps (c .args .place) p lt at);
-      capacity = search needs }
+      capacity = search needs;
+    }

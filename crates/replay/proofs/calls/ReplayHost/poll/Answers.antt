@@ -17,4 +17,5 @@ returns-in-None c =
       small = refl;
       answer = search needs;
       exact = search needs;
-      first = tt }
+      first = tt;
+    }

@@ -28,4 +28,5 @@ returns c =
       answer = c .finish .ensures .answer ∙ ending-is m k within ∙ ap (λ (z : State). Some (ending z k)) same;
       after = end-exact (c .args .rewrites) (rep-of self) k t _ host (c .drop-endings .ensures .left);
       ends = ends;
-      small = ends-small (capacity-of (self .machine)) s (ending s k) t (machine-lawful (self .machine)) ends }
+      small = ends-small (capacity-of (self .machine)) s (ending s k) t (machine-lawful (self .machine)) ends;
+    }

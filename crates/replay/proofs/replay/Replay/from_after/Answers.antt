@@ -13,7 +13,8 @@ returns-then-ending-len c =
     let xs = vec-items (self .endings) in
     record {
       within = omega (arith, c .if-ending-len .taken);
-      left = left-drop xs (self .from) (c .turn-at-ending .result .place) _ (omega (arith, self .endings .ok .0, c .if-ending-len .taken)) (omega arith) ∙ ap (λ (t : Turn). left-after (drop (self .from) xs) (t .place)) (c .turn-at-ending .ensures) }
+      left = left-drop xs (self .from) (c .turn-at-ending .result .place) _ (omega (arith, self .endings .ok .0, c .if-ending-len .taken)) (omega arith) ∙ ap (λ (t : Turn). left-after (drop (self .from) xs) (t .place)) (c .turn-at-ending .ensures);
+    }
 
 pub returns-else-ending-len : need.returns-else-ending-len
 returns-else-ending-len c =
@@ -21,4 +22,5 @@ returns-else-ending-len c =
     let xs = vec-items (self .endings) in
     record {
       within = self .within;
-      left = left-all xs (self .from) (c .turn-at-ending .result .place) (omega (arith, self .endings .ok .0, c .if-ending-len .left)) ∙ ap (λ (t : Turn). left-after (drop (self .from) xs) (t .place)) (c .turn-at-ending .ensures) }
+      left = left-all xs (self .from) (c .turn-at-ending .result .place) (omega (arith, self .endings .ok .0, c .if-ending-len .left)) ∙ ap (λ (t : Turn). left-after (drop (self .from) xs) (t .place)) (c .turn-at-ending .ensures);
+    }

@@ -19,4 +19,5 @@ returns c =
       answer = w .answer ∙ ap (λ (o : Option Refusal). clock-answer o s) same;
       after = w .after ∙ ap (λ (o : Option Refusal). started o s (command-of hashes s (c .args .edge) (c .args .question .now) (c .args .reads .now) (c .args .outputs .now))) same;
       left = refl;
-      kept = λ off. same-replay self _ _ _ (w .kept off) }
+      kept = λ off. same-replay self _ _ _ (w .kept off);
+    }

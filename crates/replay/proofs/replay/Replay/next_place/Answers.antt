@@ -16,9 +16,10 @@ pub loop-k-again : need.loop-k-again
 loop-k-again c =
     let r = rep-of (c .args .self .now) in
     let few = few-pending (c .args .self .now) in
-    let l : c .loop-k .k < length (r .host .pending) = omega (arith, c .pending-len-count .ensures, c .loop-k-test .taken) in
-    (length-set _ _ _ ∙ c .loop-k .inv .0,
-     table-more r (c .loop-k .table) (c .loop-k .k) (c .turn-at .result) (omega (arith, few, l, c .loop-k .inv .0)) l (c .turn-at .ensures) (c .loop-k .inv .1))
+    let l : c .loop-k .k < length (r .host .pending) = omega (arith, c .pending-len-count .ensures, c .loop-k-test .taken) in (
+      length-set _ _ _ ∙ c .loop-k .inv .0,
+      table-more r (c .loop-k .table) (c .loop-k .k) (c .turn-at .result) (omega (arith, few, l, c .loop-k .inv .0)) l (c .turn-at .ensures) (c .loop-k .inv .1),
+    )
 
 pub returns : need.returns
 returns c =
@@ -27,4 +28,5 @@ returns c =
     let all = table-all r (c .loop-k .table) (c .loop-k .k) (c .pending-len-count .result) end (c .pending-len-count .ensures) (c .loop-k .inv .1) in
     record {
       place = next-is (c .earliest .result) _ r all (c .earliest .ensures .place);
-      first = first-is (c .earliest .result) _ r all (c .earliest .ensures .law) }
+      first = first-is (c .earliest .result) _ r all (c .earliest .ensures .law);
+    }

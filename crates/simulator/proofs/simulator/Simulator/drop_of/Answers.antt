@@ -34,7 +34,8 @@ returns-in-None c =
       answer = break-none s (c .args .edge) (c .if-edge-gt-LAST-EDGE .left) (c .in-None .ensures tt);
       after = drop-none (sim-of self) (c .args .edge) (c .if-edge-gt-LAST-EDGE .left) (c .in-None .ensures tt);
       breaks = breaks-none s s (c .args .edge) (c .in-None .ensures tt) refl (c .if-edge-gt-LAST-EDGE .left);
-      kept = λ off. refl }
+      kept = λ off. refl;
+    }
 
 pub returns-in-Some : need.returns-in-Some
 returns-in-Some c =
@@ -44,4 +45,5 @@ returns-in-Some c =
       answer = c .break-off .ensures .answer;
       after = drop-exact (sim-of self) (c .args .edge) (c .in-Some .place) (state-of (c .break-off .last .self)) (vec-items (c .remove .last .self)) (c .if-edge-gt-LAST-EDGE .left) (c .in-Some .ensures tt) (c .break-off .ensures .after) (c .remove .ensures .items);
       breaks = c .break-off .ensures .breaks;
-      kept = λ off. absurd (break-taken (c .break-off .result) s (c .args .edge) (c .if-edge-gt-LAST-EDGE .left) (c .break-off .ensures .answer) off) }
+      kept = λ off. absurd (break-taken (c .break-off .result) s (c .args .edge) (c .if-edge-gt-LAST-EDGE .left) (c .break-off .ensures .answer) off);
+    }

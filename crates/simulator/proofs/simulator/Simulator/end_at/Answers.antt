@@ -43,4 +43,5 @@ returns c =
       after = end-exact (c .args .rewrites) (sim-of self) (c .args .place) t (c .remove-due .result .tick) (c .remove-due .result) (vec-items (c .remove-due .last .self)) lt (c .remove-due .ensures .value) refl host (c .remove-due .ensures .items);
       ends = ends;
       small = ends-small (capacity-of (self .machine)) s (ending s (c .args .place)) t (machine-lawful (self .machine)) ends;
-      paired = paired-at (sim-of self) (c .args .place) (timed-of self) lt }
+      paired = paired-at (sim-of self) (c .args .place) (timed-of self) lt;
+    }

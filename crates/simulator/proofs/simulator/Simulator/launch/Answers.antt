@@ -58,4 +58,5 @@ returns-in-Err c =
       answer = e .answer ∙ ap (λ (o : Option Refusal). clock-answer o s) same;
       after = e .after ∙ ap (λ (o : Option Refusal). started o s command) same;
       exact = (λ i. record { host = after i; tick = self .tick; dues = vec-items (self .dues) }) ∙ sym (ap (λ (o : Option Refusal). sim-started o (sim-of self) command (length (command-text (c .args .question .now)))) refused);
-      kept = λ off. same-simulator self _ _ _ _ _ _ _ (e .kept refl) }
+      kept = λ off. same-simulator self _ _ _ _ _ _ _ (e .kept refl);
+    }

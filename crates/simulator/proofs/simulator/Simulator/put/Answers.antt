@@ -8,4 +8,5 @@ returns c =
     record {
       answer = w .answer;
       after = λ i. record { host = w .after i; tick = c .args .self .now .tick; dues = c .args .self .now .dues .items };
-      kept = λ off. same-simulator (c .args .self .now) _ _ _ _ _ _ _ (w .kept off) }
+      kept = λ off. same-simulator (c .args .self .now) _ _ _ _ _ _ _ (w .kept off);
+    }
