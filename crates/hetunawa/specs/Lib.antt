@@ -1,3 +1,4 @@
-pub mod Decimals
+pub mod Grammar
 pub mod Performs
-pub mod Texts
+pub mod Starts
+pub mod Verbs

@@ -1,16 +1,22 @@
 // A script of host calls is done line by line, and each call's answer is printed.
+ghost use mathlib.Core.Path.{_≡_};
+ghost use mathlib.Core.Bool.{Bool};
+ghost use Rattle.std.specs.Results.{Cases};
+ghost use Rattle.hetunawa.specs.Performs.{Answers};
+ghost use Rattle.hetunawa.specs.Starts.{call-of};
+ghost use Rattle.script.specs.Texts.{comment, passed-over};
 use crate::answer::Answer;
 use crate::answer::AnswerDisplay;
 use crate::answer::Listed;
 use crate::answer::ListedDisplay;
 use crate::call::Unread;
 use crate::call::call_of;
-use crate::lines::Lines;
-use crate::lines::LinesIterator;
-use crate::lines::Words;
-use crate::lines::WordsIterator;
 use crate::perform::perform;
 use host::Host;
+use script::Lines;
+use script::LinesIterator;
+use script::Words;
+use script::WordsIterator;
 use std::alloc::AllocError;
 use std::alloc::Global;
 use std::fmt;
@@ -50,7 +56,12 @@ pub impl From<AllocError> for Fault as FaultFromAlloc {
 }
 
 // Does each line of the script, and lists the files in the end.
-pub fn run<B: Host, W: Write>(heap: Global, host: &mut B, script: &[u8], out: &mut W) -> Result<(), Fault> {
+pub fn run<B: Host, W: Write>(
+    heap: Global,
+    host: &mut B,
+    script: &[u8],
+    out: &mut W,
+) -> Result<(), Fault> {
     for line in Lines::new(script) {
         if !is_passed_over(line) {
             let answer = answer_to(heap, host, line)?;
@@ -62,12 +73,29 @@ pub fn run<B: Host, W: Write>(heap: Global, host: &mut B, script: &[u8], out: &m
     Ok(())
 }
 
-// Whether a line is blank or a comment.
-fn is_passed_over(line: &[u8]) -> bool {
-    line.starts_with(b"# ") || Words::new(line).next().is_none()
+// Whether a line is a comment or blank.
+fn is_passed_over(line: &[u8]) -> bool
+    ensures { λ r. ⌜ r ≡ passed-over (now (line .entry)) ⌝ }
+{
+    if is_comment(line) {
+        return true;
+    }
+    match Words::new(line).next() {
+        None => true,
+        Some(_) => false,
+    }
 }
 
-fn answer_to<B: Host>(heap: Global, host: &mut B, line: &[u8]) -> Result<Answer, AllocError> {
+fn is_comment(line: &[u8]) -> bool
+    ensures { λ r. ⌜ r ≡ comment (now (line .entry)) ⌝ }
+{
+    line.len() > 1 && line[0] == b'#' && line[1] == b' '
+}
+
+// What a line answers. For want of memory it does nothing.
+fn answer_to<B: Host>(heap: Global, host: &mut B, line: &[u8]) -> Result<Answer, AllocError>
+    ensures { λ r. ⌜ Cases r (λ a. Answers (B·Host .capacity) (B·Host .makes) (call-of (now (line .entry))) (B·Host .state (now (host .entry))) a (B·Host .state (now (host .exit)))) (λ _. B·Host .state (now (host .exit)) ≡ B·Host .state (now (host .entry))) ⌝ }
+{
     match call_of(heap, line) {
         Ok(call) => Ok(perform(host, &call)),
         Err(Unread::NotUnderstood) => Ok(Answer::NotUnderstood),

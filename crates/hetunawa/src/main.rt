@@ -1,14 +1,14 @@
 // The program hetunawa: its first word says what to do.
 mod answer;
 mod call;
-mod decimal;
 mod help;
 mod hostscript;
-mod lines;
 mod perform;
+mod verb;
+
+use host::Host;
 use hostscript::Fault;
 use hostscript::FaultDisplay;
-use host::Host;
 use replay::Replay;
 use replay::ReplayHost;
 use replay::ReplayView;
@@ -37,7 +37,11 @@ fn main(rt: LibcRuntime) -> Result<(), Failed> {
         [] => explain(&rt),
         [word] if word.as_str() == "--help" => explain(&rt),
         [word, script] if word.as_str() == "host" => over_simulator(&rt, script.as_str()),
-        [word, script, recording] if word.as_str() == "host" => over_replay(&rt, script.as_str(), recording.as_str()),
+        [word, script, recording] if word.as_str() == "host" => over_replay(
+            &rt,
+            script.as_str(),
+            recording.as_str(),
+        ),
         [word, ..] => Err(misused(&rt, word.as_str())),
     }
 }
@@ -58,9 +62,15 @@ fn explain(rt: &LibcRuntime) -> Result<(), Failed> {
 // Tells why words were not understood.
 fn misused(rt: &LibcRuntime, word: &str) -> Failed {
     let _ = match word {
-        "host" => eprintln!(rt, "hetunawa: `host` takes a SCRIPT and, if wanted, a RECORDING, and no other count of words"),
+        "host" => eprintln!(
+            rt,
+            "hetunawa: `host` takes a SCRIPT and, if wanted, a RECORDING, and no other count of words"
+        ),
         "--help" => eprintln!(rt, "hetunawa: `--help` takes no further words"),
-        _ => eprintln!(rt, "hetunawa: there is no word `{word}`; `hetunawa --help` tells which there are"),
+        _ => eprintln!(
+            rt,
+            "hetunawa: there is no word `{word}`; `hetunawa --help` tells which there are"
+        ),
     };
     Failed
 }

@@ -8,6 +8,7 @@ ghost use Rattle.host.specs.State.{State};
 ghost use Rattle.host.specs.Calls.{Polls, Breaks-off};
 ghost use Rattle.host.specs.Refusals.{tell-answer};
 ghost use Rattle.host.specs.declared.Ended.{Ended};
+ghost use Rattle.hetunawa.specs.Grammar.{meaning};
 ghost use Rattle.hetunawa.specs.Performs.{Performs, write-said, remove-said, start-said, tell-said, poll-said, break-said};
 use crate::answer::Answer;
 use crate::call::Call;
@@ -17,14 +18,19 @@ use host::Refusal;
 use host::Stamped;
 
 pub fn perform<B: Host>(host: &mut B, call: &Call) -> Answer
-    ensures { λ r. ⌜ Performs (B·Host .capacity) (B·Host .makes) (now (call .entry)) (B·Host .state (now (host .entry))) r (B·Host .state (now (host .exit))) ⌝ }
+    ensures { λ r. ⌜ Performs (B·Host .capacity) (B·Host .makes) (meaning (now (call .entry))) (B·Host .state (now (host .entry))) r (B·Host .state (now (host .exit))) ⌝ }
 {
     match call {
         Call::Write(file, mark) => written(host.outside_write(*file, Some(*mark))),
         Call::Remove(file) => removed(host.outside_write(*file, None)),
         Call::Tell(file) => told(host.tell(*file)),
         Call::Clock => Answer::Clock(host.clock()),
-        Call::Start(start) => started(host.start(start.edge, &start.question, &start.reads, &start.outputs)),
+        Call::Start(start) => started(host.start(
+            start.edge,
+            &start.question,
+            &start.reads,
+            &start.outputs,
+        )),
         Call::Poll => polled(host.poll()),
         Call::BreakOff(edge) => broken_off(host.break_off(*edge)),
     }
@@ -73,7 +79,11 @@ fn polled(answer: Option<Ended>) -> Answer
     match answer {
         None => Answer::NoEnding,
         Some(ended) => {
-            if ended.good { Answer::Good(ended.edge) } else { Answer::Failed(ended.edge) }
+            if ended.good {
+                Answer::Good(ended.edge)
+            } else {
+                Answer::Failed(ended.edge)
+            }
         }
     }
 }

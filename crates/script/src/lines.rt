@@ -1,0 +1,134 @@
+// The lines of a script, and the words of a line.
+ghost use mathlib.Core.Path.{_≡_};
+ghost use mathlib.Core.List.{List, [], _∷_};
+ghost use Prim.Native.Nat.{ℕ, _+_, _<_, _≤_};
+ghost use lib.ListN.{length, getD, drop};
+ghost use Rattle.std.specs.Options.{Cases as BySome};
+ghost use Rattle.std.specs.Options.{mapped};
+ghost use Rattle.script.specs.Colons.{Colon, No-colon, cut-of};
+ghost use Rattle.script.specs.Texts.{words-of, lines-of};
+ghost use denote.Ref.{now as behind};
+
+// The lines of some bytes, without their line ends; a last line needs none.
+#[derive(Drop)]
+pub struct Lines<'a> {
+    rest: &'a [u8],
+}
+
+impl<'a> Lines<'a> {
+    pub fn new(script: &'a [u8]) -> Lines<'a>
+        ensures { λ r. ⌜ behind (r .rest) ≡ now (script .entry) ⌝ }
+    {
+        Lines { rest: script }
+    }
+}
+
+pub impl<'a> Iterator for Lines<'a> as LinesIterator {
+    type Item = &'a [u8];
+
+    ghost steps = { λ s r t. BySome r (lines-of (behind (s .rest)) ≡ []) (λ l. lines-of (behind (s .rest)) ≡ behind l ∷ lines-of (behind (t .rest))) };
+
+    ghost ends = { λ _. Unit {0} };
+
+    ghost left = { λ s. length (behind (s .rest)) };
+
+    fn next(&mut self) -> Option<&'a [u8]> {
+        let rest = self.rest;
+        if rest.is_empty() {
+            return None;
+        }
+        let (line, after) = rest.split_at(place_of(rest, b'\n'));
+        self.rest = past_first(after);
+        Some(line)
+    }
+}
+
+// The words of a line: what runs of spaces part.
+#[derive(Drop)]
+pub struct Words<'a> {
+    rest: &'a [u8],
+}
+
+impl<'a> Words<'a> {
+    pub fn new(line: &'a [u8]) -> Words<'a>
+        ensures { λ r. ⌜ behind (r .rest) ≡ now (line .entry) ⌝ }
+    {
+        Words { rest: line }
+    }
+}
+
+pub impl<'a> Iterator for Words<'a> as WordsIterator {
+    type Item = &'a [u8];
+
+    ghost steps = { λ s r t. BySome r (words-of (behind (s .rest)) ≡ []) (λ w. words-of (behind (s .rest)) ≡ behind w ∷ words-of (behind (t .rest))) };
+
+    ghost ends = { λ _. Unit {0} };
+
+    ghost left = { λ s. length (behind (s .rest)) };
+
+    fn next(&mut self) -> Option<&'a [u8]> {
+        let line = self.rest;
+        let (_, rest) = line.split_at(spaces(line));
+        let (word, after) = rest.split_at(place_of(rest, b' '));
+        self.rest = after;
+        if word.is_empty() { None } else { Some(word) }
+    }
+}
+
+// All bytes but the first, if there is one.
+fn past_first(bytes: &[u8]) -> &[u8]
+    ensures value { λ r. ⌜ now r ≡ drop 1 (now (bytes .entry)) ⌝ }
+    ensures shorter { λ r. ⌜ length (now r) ≤ length (now (bytes .entry)) ⌝ }
+{
+    if bytes.is_empty() { bytes } else { &bytes[1..] }
+}
+
+// The parts before and behind the first colon with a space behind it.
+pub fn cut_at_colon(line: &[u8]) -> Option<(&[u8], &[u8])>
+    ensures { λ r. ⌜ mapped (λ p. (behind (p .0), behind (p .1))) r ≡ cut-of (now (line .entry)) ⌝ }
+{
+    match colon_in(line) {
+        None => None,
+        Some(colon) => Some((&line[0..colon], &line[colon + 2..])),
+    }
+}
+
+// The place of the first colon with a space behind it.
+fn colon_in(line: &[u8]) -> Option<usize>
+    ensures { λ r. ⌜ BySome r (No-colon (now (line .entry)) (length (now (line .entry)))) (λ i. Colon (now (line .entry)) i × No-colon (now (line .entry)) (i + 1)) ⌝ }
+{
+    for i in 1..line.len() {
+        if line[i - 1] == b':' && line[i] == b' ' {
+            return Some(i - 1);
+        }
+    }
+    None
+}
+
+// The place of the first such byte, or the length where there is none.
+fn place_of(bytes: &[u8], byte: u8) -> usize
+    ensures within { λ r. ⌜ r ≤ length (now (bytes .entry)) ⌝ }
+    ensures before { λ r. ⌜ ((k : ℕ) → k < r → getD (now (bytes .entry)) k 0 ≡ byte → ⊥) ⌝ }
+    ensures found { λ r. ⌜ (r < length (now (bytes .entry)) → getD (now (bytes .entry)) r 0 ≡ byte) ⌝ }
+{
+    for (i, b) in bytes.iter().enumerate() {
+        if *b == byte {
+            return i;
+        }
+    }
+    bytes.len()
+}
+
+// How many spaces stand in front.
+fn spaces(bytes: &[u8]) -> usize
+    ensures within { λ r. ⌜ r ≤ length (now (bytes .entry)) ⌝ }
+    ensures all { λ r. ⌜ ((k : ℕ) → k < r → getD (now (bytes .entry)) k 0 ≡ 32) ⌝ }
+    ensures stops { λ r. ⌜ (r < length (now (bytes .entry)) → getD (now (bytes .entry)) r 0 ≡ 32 → ⊥) ⌝ }
+{
+    for (i, b) in bytes.iter().enumerate() {
+        if *b != b' ' {
+            return i;
+        }
+    }
+    bytes.len()
+}
