@@ -1,5 +1,5 @@
 // What the program says of itself.
-pub const TEXT: &str = "hetunawa - commands that read files and make others, on machines of the mind
+pub const TEXT: &str = "hetunawa - a runner for the commands that make a depot's files from others
 
   hetunawa host SCRIPT [RECORDING]
   hetunawa --help

@@ -20,7 +20,6 @@ use std::fmt::Display;
 use std::fs;
 use std::io;
 use std::io::BufWriter;
-use std::io::Write;
 
 // The number by which a malformed recording is known.
 const MALFORMED: u32 = 13;
