@@ -5,6 +5,7 @@ ghost use Prim.Native.Nat.{ℕ, _+_, _<_, _≤_};
 ghost use lib.ListN.{length, getD, drop};
 ghost use Rattle.std.specs.Options.{Cases as BySome};
 ghost use Rattle.std.specs.Options.{mapped};
+ghost use Rattle.std.specs.declared.option.Option.the-variants.{Some, None};
 ghost use Rattle.script.specs.Colons.{Colon, No-colon, cut-of};
 ghost use Rattle.script.specs.Texts.{words-of, lines-of};
 ghost use denote.Ref.{now as behind};
@@ -33,14 +34,21 @@ pub impl<'a> Iterator for Lines<'a> as LinesIterator {
     ghost left = { λ s. length (behind (s .rest)) };
 
     fn next(&mut self) -> Option<&'a [u8]> {
-        let rest = self.rest;
-        if rest.is_empty() {
-            return None;
-        }
-        let (line, after) = rest.split_at(place_of(rest, b'\n'));
-        self.rest = past_first(after);
+        let (line, after) = first_line(self.rest)?;
+        self.rest = after;
         Some(line)
     }
+}
+
+// The first line, and what is left after its end; none where nothing is left.
+fn first_line(script: &[u8]) -> Option<(&[u8], &[u8])>
+    ensures { λ r. ⌜ BySome r (lines-of (now (script .entry)) ≡ []) (λ p. (lines-of (now (script .entry)) ≡ behind (p .0) ∷ lines-of (behind (p .1))) × (length (behind (p .1)) < length (now (script .entry)))) ⌝ }
+{
+    if script.is_empty() {
+        return None;
+    }
+    let (line, after) = script.split_at(place_of(script, b'\n'));
+    Some((line, past_first(after)))
 }
 
 // The words of a line: what runs of spaces part.
@@ -67,12 +75,22 @@ pub impl<'a> Iterator for Words<'a> as WordsIterator {
     ghost left = { λ s. length (behind (s .rest)) };
 
     fn next(&mut self) -> Option<&'a [u8]> {
-        let line = self.rest;
-        let (_, rest) = line.split_at(spaces(line));
-        let (word, after) = rest.split_at(place_of(rest, b' '));
+        let (word, after) = first_word(self.rest)?;
         self.rest = after;
-        if word.is_empty() { None } else { Some(word) }
+        Some(word)
     }
+}
+
+// The first word, and what is left after it; none where only spaces are left.
+fn first_word(line: &[u8]) -> Option<(&[u8], &[u8])>
+    ensures { λ r. ⌜ BySome r (words-of (now (line .entry)) ≡ []) (λ p. (words-of (now (line .entry)) ≡ behind (p .0) ∷ words-of (behind (p .1))) × (length (behind (p .1)) < length (now (line .entry)))) ⌝ }
+{
+    let (_, rest) = line.split_at(spaces(line));
+    let (word, after) = rest.split_at(place_of(rest, b' '));
+    if word.is_empty() {
+        return None;
+    }
+    Some((word, after))
 }
 
 // All bytes but the first, if there is one.
@@ -89,13 +107,21 @@ pub fn cut_at_colon(line: &[u8]) -> Option<(&[u8], &[u8])>
 {
     match colon_in(line) {
         None => None,
-        Some(colon) => Some((&line[0..colon], &line[colon + 2..])),
+        Some(colon) => Some(cut_at(line, colon)),
     }
+}
+
+// The parts before and behind the colon at a place, and the space behind it.
+fn cut_at(line: &[u8], colon: usize) -> (&[u8], &[u8])
+    requires { ⌜ Colon (now line) colon × No-colon (now line) (colon + 1) ⌝ }
+    ensures { λ r. ⌜ Some (behind (r .0), behind (r .1)) ≡ cut-of (now (line .entry)) ⌝ }
+{
+    (&line[0..colon], &line[colon + 2..])
 }
 
 // The place of the first colon with a space behind it.
 fn colon_in(line: &[u8]) -> Option<usize>
-    ensures { λ r. ⌜ BySome r (No-colon (now (line .entry)) (length (now (line .entry)))) (λ i. Colon (now (line .entry)) i × No-colon (now (line .entry)) (i + 1)) ⌝ }
+    ensures { λ r. ⌜ BySome r (cut-of (now (line .entry)) ≡ None) (λ i. Colon (now (line .entry)) i × No-colon (now (line .entry)) (i + 1)) ⌝ }
 {
     for i in 1..line.len() {
         if line[i - 1] == b':' && line[i] == b' ' {
