@@ -1,8 +1,20 @@
 // What the program says of itself.
 pub const TEXT: &str = "hetunawa - a runner for the commands that make a depot's files from others
 
+  hetunawa outline MANIFEST
   hetunawa host SCRIPT [RECORDING]
   hetunawa --help
+
+outline reads the text of a Ninja manifest and prints a line for each statement:
+the place of its first byte, its kind and its names. A text that is no manifest
+answers `refused N at P`, with the fault's number and byte place:
+
+  refused 1         it has more than 65535 bytes
+  refused 2         it has a byte 0, 9 or 13
+  refused 3         a byte, or the end, stands where none may stand
+  refused 4         a `$` begins nothing
+  refused 5         a word of Ninja that is left out here (default, include,
+                    subninja), or a variable that the block does not take
 
 host does the calls of SCRIPT, line by line, on a simulated machine, and prints
 a line for each. With a RECORDING it does them on a replay of it: there the

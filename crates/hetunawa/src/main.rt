@@ -9,6 +9,7 @@ mod verb;
 use host::Host;
 use hostscript::Fault;
 use hostscript::FaultDisplay;
+use parts::Refusal;
 use replay::Replay;
 use replay::ReplayHost;
 use replay::ReplayView;
@@ -20,6 +21,8 @@ use std::fmt::Display;
 use std::fs;
 use std::io;
 use std::io::BufWriter;
+use std::io::Write;
+use text::Statement;
 
 // The number by which a malformed recording is known.
 const MALFORMED: u32 = 13;
@@ -41,6 +44,7 @@ fn main(rt: LibcRuntime) -> Result<(), Failed> {
             script.as_str(),
             recording.as_str(),
         ),
+        [word, manifest] if word.as_str() == "outline" => show_outline(&rt, manifest.as_str()),
         [word, ..] => Err(misused(&rt, word.as_str())),
     }
 }
@@ -64,6 +68,10 @@ fn misused(rt: &LibcRuntime, word: &str) -> Failed {
         "host" => eprintln!(
             rt,
             "hetunawa: `host` takes a SCRIPT and, if wanted, a RECORDING, and no other count of words"
+        ),
+        "outline" => eprintln!(
+            rt,
+            "hetunawa: `outline` takes a MANIFEST, and no other count of words"
         ),
         "--help" => eprintln!(rt, "hetunawa: `--help` takes no further words"),
         _ => eprintln!(
@@ -101,6 +109,33 @@ fn over_replay(rt: &LibcRuntime, script: &str, recording: &str) -> Result<(), Fa
             Err(Failed)
         }
     }
+}
+
+// Prints a line for each statement of a manifest, or its first fault.
+fn show_outline(rt: &LibcRuntime, path: &str) -> Result<(), Failed> {
+    let bytes = read(rt, path)?;
+    match text::manifest(rt.alloc(), &bytes) {
+        Ok(statements) => match print_lines(rt, &statements) {
+            Ok(()) => Ok(()),
+            Err(error) => Err(complain(rt, path, error)),
+        },
+        Err(Refusal::Faulty(fault)) => {
+            let number = fault.number();
+            let place = fault.place().byte;
+            let _ = println!(rt, "refused {number} at {place}");
+            Err(Failed)
+        }
+        Err(Refusal::Memory) => Err(complain(rt, path, Fault::Memory)),
+    }
+}
+
+fn print_lines(rt: &LibcRuntime, statements: &[Statement<'_>]) -> io::Result<()> {
+    let mut out = BufWriter::new(rt.stdout());
+    for statement in statements {
+        let line = outline::line(rt.alloc(), statement)?;
+        out.write_all(&line)?;
+    }
+    out.flush()
 }
 
 fn read(rt: &LibcRuntime, path: &str) -> Result<Vec<u8>, Failed> {

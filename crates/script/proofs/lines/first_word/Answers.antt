@@ -11,7 +11,7 @@ pub returns-then-is-empty : need.returns-then-is-empty
 returns-then-is-empty c =
     let none : c .place-of .result ≡ 0 = search needs in
     no-word (c .args .line .now) (c .split-at .result .1 .now) (c .spaces .result) (c .place-of .result) (c .spaces .ensures .within) (c .spaces .ensures .all) (c .spaces .ensures .stops)
-      (c .split-at .ensures .back) none (c .place-of .ensures .found)
+    (c .split-at .ensures .back) none (c .place-of .ensures .found)
 
 pub returns : need.returns
 returns c =

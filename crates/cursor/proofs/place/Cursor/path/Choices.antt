@@ -1,0 +1,15 @@
+use mathlib.Core.Path.{_≡_}
+use mathlib.Core.Bool.{false}
+use Prim.Native.Nat.{_≤_}
+use lib.ListN.{length}
+use denote.Ref.{now}
+use Rattle.cursor.specs.Scan.{walk}
+use Rattle.cursor.proofs.place.Cursor.path.Given as given
+
+abbrev pub Inv-loop-self : given.InvT-loop-self
+Inv-loop-self l =
+    (walk (l .wrapped) (l .self .at) (now (l .self .rest)) ≡ walk false (l .entry .self .at) (l .start))
+    × (length (now (l .self .rest)) ≤ length (l .start))
+
+abbrev pub μ-loop-self : given.MeasureT-loop-self
+μ-loop-self l = length (now (l .self .rest))
