@@ -25,12 +25,14 @@ ruleTests n =
 abbrev pub poolTests : List ℕ → Bool
 poolTests n = sameBytes n (codes "depth")
 
--- the same, shut to whoever only cites them
+-- the statement that the name n begins, shut to whoever only cites it
 unfoldable pub wordOf : List ℕ → Word
 wordOf n = wordTests n
 
+-- the names that a rule's block takes, shut likewise
 unfoldable pub ruleTakes : List ℕ → Bool
 ruleTakes n = ruleTests n
 
+-- the name that a pool's block takes, shut likewise
 unfoldable pub poolTakes : List ℕ → Bool
 poolTakes n = poolTests n

@@ -106,9 +106,11 @@ inputs i s =
 abbrev pub pathsOf : Vec (RefT (List ℕ)) Global → List (List ℕ)
 pathsOf v = map now (vec-items v)
 
+-- the outputs that the code's struct holds
 abbrev pub outsOf : Outputs → Outs
 outsOf o = record { explicit = pathsOf (o .explicit); implicit = pathsOf (o .implicit) }
 
+-- the inputs that the code's struct holds
 abbrev pub insOf : Inputs → Ins
 insOf o =
     record { explicit = pathsOf (o .explicit); implicit = pathsOf (o .implicit); orderOnly = pathsOf (o .«order_only»); validations = pathsOf (o .validations) }

@@ -6,3 +6,8 @@ pub mod SoundParts
 pub mod Full
 pub mod FullParts
 pub mod Law
+pub mod Later
+pub mod Near
+pub mod NearScan
+pub mod NearParts
+pub mod Place

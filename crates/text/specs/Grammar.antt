@@ -4,8 +4,8 @@ use mathlib.Core.Path.{_≡_}
 use mathlib.Core.Bool.{true, false}
 use mathlib.Core.List.{List, [], _∷_, _++_, map}
 use mathlib.Core.Logic.{_⊎_}
-use Prim.Native.Nat.{ℕ, _-_, _<_, _≤_}
-use lib.ListN.{length, getD}
+use Prim.Native.Nat.{ℕ, suc, _-_, _<_, _≤_}
+use lib.ListN.{length, getD, take}
 use Rattle.std.specs.declared.result.Result.{Result}
 use Rattle.std.specs.declared.result.Result.the-variants.{Ok, Err}
 use Rattle.std.specs.declared.vec.Vec.{Vec}
@@ -15,6 +15,8 @@ use Rattle.bytes.specs.Class.{nameByte, simpleByte, bannedByte}
 use Rattle.bytes.specs.Words.{wordOf}
 use Rattle.bytes.specs.declared.words.Word.the-variants.{Rule, Pool, Build, Plain}
 use Rattle.cursor.specs.Scan.{upTo, stops}
+use Rattle.cursor.specs.declared.place.Fault.{Fault}
+use Rattle.cursor.specs.declared.place.Fault.the-variants.{TooLong, Banned, Syntax, Dollar, LeftOut as LeftOutAt}
 use Rattle.parts.specs.Parts.{Entry, Outs, Ins, takes}
 use Rattle.parts.specs.declared.kinds.Block.{Block}
 use Rattle.parts.specs.declared.kinds.Block.the-variants.{Rule as RuleBlock, Pool as PoolBlock, Build as BuildBlock}
@@ -188,3 +190,27 @@ abbrev pub Admits : Result (Vec Statement Global) Refusal → List ℕ → Type 
 Admits (Ok v) s = Manifest s (map statedOf (vec-items v)) × ((xs : List Stated) → Manifest s xs → xs ≡ map statedOf (vec-items v))
 Admits (Err (Faulty f)) s = (xs : List Stated) → Manifest s xs → ⊥
 Admits (Err Memory) s = Unit {0}
+
+-- s is of the grammar, however long it is
+pub record Spoken (s : List ℕ) : Type 0 where
+  pub said : List Stated
+  pub rest : List ℕ
+  pub says : Statements (length s) s said rest
+
+-- the bytes of s up to the place p and with the byte there begin nothing of the grammar
+abbrev pub Dead : List ℕ → ℕ → Type 0
+Dead s p = p < length s → (t : List ℕ) → Spoken (take (suc p) s ++ t) → ⊥
+
+-- the place of a fault of the grammar
+abbrev pub PlacedFault : Fault → List ℕ → Type 0
+PlacedFault TooLong s = Unit {0}
+PlacedFault (Banned p) s = Unit {0}
+PlacedFault (Syntax p) s = Dead s (p .byte)
+PlacedFault (Dollar p) s = Unit {0}
+PlacedFault (LeftOutAt p) s = Unit {0}
+
+-- where `manifest` found a fault of the grammar in s, no manifest begins with the bytes up to there
+abbrev pub Placed : Result (Vec Statement Global) Refusal → List ℕ → Type 0
+Placed (Ok v) s = Unit {0}
+Placed (Err (Faulty f)) s = PlacedFault f s
+Placed (Err Memory) s = Unit {0}

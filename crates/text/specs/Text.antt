@@ -59,23 +59,27 @@ pub record Stated : Type 0 where
   pub place : ℕ
   pub says : Said
 
--- what the code's statements hold
+-- the lines that a vector of bindings holds
 abbrev pub linesOf : Vec Binding Global → List Entry
 linesOf v = map entryOf (vec-items v)
 
+-- the rule or pool that the code's struct holds
 abbrev pub headOf : Declared → Head
 headOf d = record { name = now (d .name); lines = linesOf (d .lines) }
 
+-- the build statement that the code's struct holds
 abbrev pub workOf : Edge → Work
 workOf e =
     record { outs = outsOf (e .outputs); rule = now (e .rule); ins = insOf (e .inputs); lines = linesOf (e .lines) }
 
+-- what the code's enum says
 abbrev pub saidOf : Body → Said
 saidOf (Variable b) = variable (entryOf b)
 saidOf (RuleBody d) = rule (headOf d)
 saidOf (PoolBody d) = pool (headOf d)
 saidOf (BuildBody e) = build (workOf e)
 
+-- the statement that the code's struct holds
 abbrev pub statedOf : Statement → Stated
 statedOf x = record { place = x .place .byte; says = saidOf (x .body) }
 

@@ -6,7 +6,7 @@ ghost use lib.ListN.{take, length};
 ghost use Rattle.std.specs.Of.Vec.{vec-items};
 ghost use Rattle.cursor.specs.Told.{maybe};
 ghost use Rattle.parts.specs.Parts.{Tells};
-ghost use Rattle.text.specs.Grammar.{Admits};
+ghost use Rattle.text.specs.Grammar.{Admits, Placed};
 ghost use Rattle.text.specs.Text.{firstBanned, checked, refusedBy, next, statedOf, statements, manifestOf, Answers, Kept};
 use crate::kinds::Statement;
 use crate::statement::read_next;
@@ -92,6 +92,7 @@ fn all_statements<'a>(heap: Global, c: &mut Cursor<'a>) -> Result<Vec<Statement<
 fn whole<'a>(heap: Global, text: &'a [u8]) -> Result<Vec<Statement<'a>>, Refusal>
     ensures says { λ r. ⌜ Answers r (manifestOf (now (text .entry))) ⌝ }
     ensures admits { λ r. ⌜ Admits r (now (text .entry)) ⌝ }
+    ensures placed { λ r. ⌜ Placed r (now (text .entry)) ⌝ }
 {
     check(text)?;
     let mut c = start(text);
@@ -102,6 +103,7 @@ fn whole<'a>(heap: Global, text: &'a [u8]) -> Result<Vec<Statement<'a>>, Refusal
 pub fn manifest<'a>(heap: Global, text: &'a [u8]) -> Result<Vec<Statement<'a>>, Refusal>
     ensures says { λ r. ⌜ Answers r (manifestOf (now (text .entry))) ⌝ }
     ensures admits { λ r. ⌜ Admits r (now (text .entry)) ⌝ }
+    ensures placed { λ r. ⌜ Placed r (now (text .entry)) ⌝ }
 {
     whole(heap, text)
 }

@@ -1,7 +1,7 @@
 // Texts with their outlines, which the file `stdout` beside this one holds as they should be.
 use std::error::AnyError;
 
-static TEXTS: [&[u8]; 116] = [
+static TEXTS: [&[u8]; 117] = [
     b"",
     b"\n",
     b"   \n",
@@ -117,6 +117,7 @@ static TEXTS: [&[u8]; 116] = [
     b"a = \0\n",
     b"=\n\t",
     b"default\n\r\0",
+    b"# an example\ncflags = -O2\n\npool link\n  depth = 1\n\nrule cc\n  command = cc $cflags -c $in -o $out\n  description = compile $out\n\nbuild a.o | a.d: cc a.c | a.h || gen |@ check\n  cflags = -O3\n",
     b"build a: r | | \n",
 ];
 
