@@ -61,7 +61,7 @@ fn is_braced(s: &[u8]) -> bool
     n > 0 && closes(s, n)
 }
 
-// Whether what stands after a `$` makes an escape of it: the next character decides.
+// Whether what stands after a `$` makes an escape of it.
 pub(crate) fn is_escaped(s: &[u8]) -> bool
     ensures { λ r. ⌜ r ≡ escaped (now (s .entry)) ⌝ }
 {
