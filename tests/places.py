@@ -4,7 +4,7 @@
     places.py PROGRAM [COUNT [SEED]]
 
 The bytes before the place must be the beginning of some manifest: one of the endings below has to make one of them. The bytes
-up to and with the place must not be: that is proved, and tried here too.
+up to and with the place must not be. Both are proved of the reader; here the program as it is linked is tried.
 """
 import os
 import random

@@ -10,4 +10,8 @@ pub mod Later
 pub mod Near
 pub mod NearScan
 pub mod NearParts
+pub mod Grow
+pub mod GrowParts
+pub mod GrowLines
+pub mod Within
 pub mod Place

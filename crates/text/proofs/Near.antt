@@ -107,7 +107,7 @@ name-len-near (b ∷ u) x y =
     (λ t _. ⊎-elim (λ w. inl (rw t (ap suc (w .0)), omega (arith, w .1))) (λ l. inr (omega arith)) (name-len-near u x y))
     (λ f _. inl (rw f refl, omega arith)) refl
 
-drop-left : (m : ℕ) (u x : List ℕ) → m ≤ length u → drop m (u ++ x) ≡ drop m u ++ x
+pub drop-left : (m : ℕ) (u x : List ℕ) → m ≤ length u → drop m (u ++ x) ≡ drop m u ++ x
 drop-left zero u x l = refl
 drop-left (suc m) [] x l = absurd (omega arith)
 drop-left (suc m) (b ∷ u) x l = drop-left m u x (omega arith)

@@ -50,32 +50,32 @@ any-path-dollar n j x e =
 abbrev Unmarked : Bool → Type 0
 Unmarked m = m ≡ false
 
-bar-else : (i b : ℕ) (s : List ℕ) → eqb b 124 ≡ false → ok false i (b ∷ s) ≡ bar i (b ∷ s)
+pub bar-else : (i b : ℕ) (s : List ℕ) → eqb b 124 ≡ false → ok false i (b ∷ s) ≡ bar i (b ∷ s)
 bar-else i b [] f = rw f
 bar-else i b (c ∷ s) f = rw f
 
-pair-else : (k i b : ℕ) (s : List ℕ) → eqb b 124 ≡ false → ok false i (b ∷ s) ≡ pair k i (b ∷ s)
+pub pair-else : (k i b : ℕ) (s : List ℕ) → eqb b 124 ≡ false → ok false i (b ∷ s) ≡ pair k i (b ∷ s)
 pair-else k i b [] f = refl
 pair-else k i b (c ∷ s) f = rw f
 
 -- what follows the name m of a variable: its parts from the last to the first
-abbrev closed : List ℕ → List ℕ → ℕ → List ℕ → Out Entry
+abbrev pub closed : List ℕ → List ℕ → ℕ → List ℕ → Out Entry
 closed m w j r = andThen (byte 10 Nothing j r) (λ _ j5 r5. ok (record { name = m; value = w }) j5 r5)
 
-abbrev valued : List ℕ → ℕ → List ℕ → Out Entry
+abbrev pub valued : List ℕ → ℕ → List ℕ → Out Entry
 valued m j r = andThen (value j r) (λ w j4 r4. closed m w j4 r4)
 
-abbrev assigned : List ℕ → ℕ → List ℕ → Out Entry
+abbrev pub assigned : List ℕ → ℕ → List ℕ → Out Entry
 assigned m j r = andThen (gap j r) (λ _ j3 r3. valued m j3 r3)
 
-abbrev signed : List ℕ → ℕ → List ℕ → Out Entry
+abbrev pub signed : List ℕ → ℕ → List ℕ → Out Entry
 signed m j r = andThen (byte 61 Gap j r) (λ _ j2 r2. assigned m j2 r2)
 
 -- what follows the name m of a rule or pool: its block, with the line's end before it
-abbrev headLast : Block → List ℕ → ℕ → List ℕ → Out Head
+abbrev pub headLast : Block → List ℕ → ℕ → List ℕ → Out Head
 headLast b m j r = andThen (block b j r) (λ ls j5 r5. ok (record { name = m; lines = ls }) j5 r5)
 
-abbrev headLine : Block → List ℕ → ℕ → List ℕ → Out Head
+abbrev pub headLine : Block → List ℕ → ℕ → List ℕ → Out Head
 headLine b m j r = andThen (byte 10 Gap j r) (λ _ j4 r4. headLast b m j4 r4)
 
 module _ (n : ℕ) (x y : List ℕ) where
@@ -254,16 +254,16 @@ module _ (n : ℕ) (x y : List ℕ) where
   seq : {A B : Type 0} (g : ℕ → List ℕ → Out A) (f : A → ℕ → List ℕ → Out B) (i : ℕ) (u : List ℕ) → Near n x y (g i (u ++ x)) (g i (u ++ y)) → ((a : A) (j : ℕ) (r : List ℕ) → n ≤ j → Later n (f a j r)) → ((a : A) (j : ℕ) (v : List ℕ) → j + length v ≡ n → Near n x y (f a j (v ++ x)) (f a j (v ++ y))) → Near n x y (andThen (g i (u ++ x)) f) (andThen (g i (u ++ y)) f)
   seq g f i u h k1 k2 = then-near n x y (g i (u ++ x)) (g i (u ++ y)) f h k1 (λ a j v q l. k2 a j v q)
 
-  closed-later : (m w : List ℕ) (j : ℕ) (r : List ℕ) → n ≤ j → Later n (closed m w j r)
+  pub closed-later : (m w : List ℕ) (j : ℕ) (r : List ℕ) → n ≤ j → Later n (closed m w j r)
   closed-later m w j r h = then-later n (byte 10 Nothing j r) _ (byte-later n 10 Nothing j r h) (λ _ j5 r5 h5. h5)
 
-  valued-later : (m : List ℕ) (j : ℕ) (r : List ℕ) → n ≤ j → Later n (valued m j r)
+  pub valued-later : (m : List ℕ) (j : ℕ) (r : List ℕ) → n ≤ j → Later n (valued m j r)
   valued-later m j r h = then-later n (value j r) (λ w j4 r4. closed m w j4 r4) (value-later n j r h) (λ w j4 r4 h4. closed-later m w j4 r4 h4)
 
-  assigned-later : (m : List ℕ) (j : ℕ) (r : List ℕ) → n ≤ j → Later n (assigned m j r)
+  pub assigned-later : (m : List ℕ) (j : ℕ) (r : List ℕ) → n ≤ j → Later n (assigned m j r)
   assigned-later m j r h = then-later n (gap j r) (λ _ j3 r3. valued m j3 r3) (gap-later n j r h) (λ _ j3 r3 h3. valued-later m j3 r3 h3)
 
-  signed-later : (m : List ℕ) (j : ℕ) (r : List ℕ) → n ≤ j → Later n (signed m j r)
+  pub signed-later : (m : List ℕ) (j : ℕ) (r : List ℕ) → n ≤ j → Later n (signed m j r)
   signed-later m j r h = then-later n (byte 61 Gap j r) (λ _ j2 r2. assigned m j2 r2) (byte-later n 61 Gap j r h) (λ _ j2 r2 h2. assigned-later m j2 r2 h2)
 
   valued-near : (m : List ℕ) (j : ℕ) (v : List ℕ) → j + length v ≡ n → Near n x y (valued m j (v ++ x)) (valued m j (v ++ y))
@@ -330,10 +330,10 @@ module _ (n : ℕ) (x y : List ℕ) where
       (λ j v q. seq lead _ j v (lead-near j v q) (λ d k r h. block-line-later n b d k r h) (λ d k w p. block-line-near b d k w p))
       (λ j r h. then-later n (lead j r) _ (lead-later n j r h) (λ d k t l. block-line-later n b d k t l)) (block-turn-moves b) i u [] e
 
-  head-last-later : (b : Block) (m : List ℕ) (j : ℕ) (r : List ℕ) → n ≤ j → Later n (headLast b m j r)
+  pub head-last-later : (b : Block) (m : List ℕ) (j : ℕ) (r : List ℕ) → n ≤ j → Later n (headLast b m j r)
   head-last-later b m j r h = then-later n (block b j r) _ (block-later n b j r h) (λ ls j5 r5 h5. h5)
 
-  head-line-later : (b : Block) (m : List ℕ) (j : ℕ) (r : List ℕ) → n ≤ j → Later n (headLine b m j r)
+  pub head-line-later : (b : Block) (m : List ℕ) (j : ℕ) (r : List ℕ) → n ≤ j → Later n (headLine b m j r)
   head-line-later b m j r h = then-later n (byte 10 Gap j r) (λ _ j4 r4. headLast b m j4 r4) (byte-later n 10 Gap j r h) (λ _ j4 r4 h4. head-last-later b m j4 r4 h4)
 
   head-line-near : (b : Block) (m : List ℕ) (j : ℕ) (v : List ℕ) → j + length v ≡ n → Near n x y (headLine b m j (v ++ x)) (headLine b m j (v ++ y))

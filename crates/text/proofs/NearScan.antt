@@ -45,7 +45,7 @@ module _ (c n : ℕ) (x y : List ℕ) where
   two-edge P true a b d e h k = h refl
   two-edge P false a b d e h k = k refl
 
-gap-else : (i b : ℕ) (s : List ℕ) → eqb b 32 ≡ false → eqb b 36 ≡ false → ok tt i (b ∷ s) ≡ gap i (b ∷ s)
+pub gap-else : (i b : ℕ) (s : List ℕ) → eqb b 32 ≡ false → eqb b 36 ≡ false → ok tt i (b ∷ s) ≡ gap i (b ∷ s)
 gap-else i b [] f g = rw f
 gap-else i b (c ∷ s) f g = rw (f, g)
 
@@ -91,7 +91,7 @@ braced-near u x y h =
     (λ l. inr l)
     (name-len-near u x y)
 
-escaped-near : (c : ℕ) (u x y : List ℕ) → escaped (c ∷ u ++ x) ≡ true → (escaped (c ∷ u ++ y) ≡ true) ⊎ ((c ≡ 123) × (length u ≤ nameLen (u ++ x)))
+pub escaped-near : (c : ℕ) (u x y : List ℕ) → escaped (c ∷ u ++ x) ≡ true → (escaped (c ∷ u ++ y) ≡ true) ⊎ ((c ≡ 123) × (length u ≤ nameLen (u ++ x)))
 escaped-near c u x y h =
     cond-both (eqb c 10 || (eqb c 32 || (eqb c 58 || eqb c 36))) true (cond (eqb c 123) (braced (u ++ x)) (simpleByte c))
     (λ z. (eqb c 10 || (eqb c 32 || (eqb c 58 || eqb c 36))) ≡ (eqb c 10 || (eqb c 32 || (eqb c 58 || eqb c 36))) → z ≡ true → (escaped (c ∷ u ++ y) ≡ true) ⊎ ((c ≡ 123) × (length u ≤ nameLen (u ++ x))))
@@ -110,7 +110,7 @@ pass-late n g on late i (b ∷ u) x e l =
     (λ _ k. absurd (omega arith))
     l
 
-scan-on : (i b : ℕ) (t : List ℕ) → nameByte b ≡ true → scan (i + 1) t ≡ scan i (b ∷ t)
+pub scan-on : (i b : ℕ) (t : List ℕ) → nameByte b ≡ true → scan (i + 1) t ≡ scan i (b ∷ t)
 scan-on i b t h = scan-plain i (i + 1) (b ∷ t) t (omega arith) (not-name b 10 h name-10) (not-name b 36 h name-36) refl refl
 
 -- after a `$` a value has no fault of the grammar before the second byte
@@ -143,12 +143,12 @@ module _ (n : ℕ) (x y : List ℕ) where
       (λ _. tt))
       (λ _. scan-near (i + 1) (c ∷ u) (omega arith)))
 
-walk-go : (w : Bool) (i b : ℕ) (t : List ℕ) → stops b ≡ false → (b ≡ 36 → ⊥) → walk false (i + 1) t ≡ walk w i (b ∷ t)
+pub walk-go : (w : Bool) (i b : ℕ) (t : List ℕ) → stops b ≡ false → (b ≡ 36 → ⊥) → walk false (i + 1) t ≡ walk w i (b ∷ t)
 walk-go w i b t f m =
     let no-stop : (k : ℕ) → stops k ≡ true → b ≡ k → ⊥ = λ k h e. false≢true (sym f ∙ (ap stops e ∙ h)) in
     walk-plain w i (i + 1) (b ∷ t) t (omega arith) (no-stop 32 refl) (no-stop 58 refl) (no-stop 124 refl) (no-stop 10 refl) m refl refl
 
-walk-on : (i b : ℕ) (t : List ℕ) → nameByte b ≡ true → walk false (i + 1) t ≡ walk false i (b ∷ t)
+pub walk-on : (i b : ℕ) (t : List ℕ) → nameByte b ≡ true → walk false (i + 1) t ≡ walk false i (b ∷ t)
 walk-on i b t h = walk-go false i b t (name-stops b h) (not-name b 36 h name-36)
 
 pub walk-dollar-late : (n : ℕ) (w : Bool) (i b : ℕ) (s : List ℕ) → b ≡ 36 → n ≤ i + 2 → Later n (walk w i (b ∷ s))
@@ -157,11 +157,11 @@ walk-dollar-late n false i b [] p l = rw p tt
 walk-dollar-late n true i b (c ∷ s) p l = rw p (cond-both (escaped (c ∷ s)) (walk (eqb c 10) (i + 2) s) (bad (Dollar (spot i))) (Later n) (λ _. walk-later n (eqb c 10) (i + 2) s l) (λ _. tt))
 walk-dollar-late n false i b (c ∷ s) p l = rw p (cond-both (escaped (c ∷ s)) (walk (eqb c 10) (i + 2) s) (bad (Dollar (spot i))) (Later n) (λ _. walk-later n (eqb c 10) (i + 2) s l) (λ _. tt))
 
-walk-stop-here : (w : Bool) (i b : ℕ) (s : List ℕ) → (w && eqb b 32) ≡ false → stops b ≡ true → ok tt i (b ∷ s) ≡ walk w i (b ∷ s)
+pub walk-stop-here : (w : Bool) (i b : ℕ) (s : List ℕ) → (w && eqb b 32) ≡ false → stops b ≡ true → ok tt i (b ∷ s) ≡ walk w i (b ∷ s)
 walk-stop-here w i b [] f t = rw (f, t)
 walk-stop-here w i b (c ∷ s) f t = rw (f, t)
 
-walk-space-here : (w : Bool) (i b : ℕ) (s : List ℕ) → (w && eqb b 32) ≡ true → walk true (i + 1) s ≡ walk w i (b ∷ s)
+pub walk-space-here : (w : Bool) (i b : ℕ) (s : List ℕ) → (w && eqb b 32) ≡ true → walk true (i + 1) s ≡ walk w i (b ∷ s)
 walk-space-here w i b [] t = rw t
 walk-space-here w i b (c ∷ s) t = rw t
 
@@ -194,7 +194,7 @@ module _ (n : ℕ) (x y : List ℕ) where
       (λ _. walk-near false (i + 1) (c ∷ u) (omega arith))))
 
 -- the bytes that a reading passed are the same in both texts
-up-to-left : (u v x : List ℕ) → length v ≤ length u → upTo (u ++ x) (v ++ x) ≡ take (length u - length v) u
+pub up-to-left : (u v x : List ℕ) → length v ≤ length u → upTo (u ++ x) (v ++ x) ≡ take (length u - length v) u
 up-to-left u v x l =
     let e : length (u ++ x) - length (v ++ x) ≡ length u - length v = omega (arith, length-append u x, length-append v x) in
     ap (λ k. take k (u ++ x)) e ∙ take-append-le (length u - length v) u x (omega arith)

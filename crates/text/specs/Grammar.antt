@@ -201,15 +201,19 @@ pub record Spoken (s : List ℕ) : Type 0 where
 abbrev pub Dead : List ℕ → ℕ → Type 0
 Dead s p = p < length s → (t : List ℕ) → Spoken (take (suc p) s ++ t) → ⊥
 
+-- the bytes of s before the place p begin something of the grammar
+abbrev pub Begins : List ℕ → ℕ → Type 0
+Begins s p = (t : List ℕ) × Spoken (take p s ++ t)
+
 -- the place of a fault of the grammar
 abbrev pub PlacedFault : Fault → List ℕ → Type 0
 PlacedFault TooLong s = Unit {0}
 PlacedFault (Banned p) s = Unit {0}
-PlacedFault (Syntax p) s = Dead s (p .byte)
+PlacedFault (Syntax p) s = (p .byte ≤ length s) × Begins s (p .byte) × Dead s (p .byte)
 PlacedFault (Dollar p) s = Unit {0}
 PlacedFault (LeftOutAt p) s = Unit {0}
 
--- where `manifest` found a fault of the grammar in s, no manifest begins with the bytes up to there
+-- where `manifest` found a fault of the grammar in s, the bytes before the place begin a text of the grammar, and with the byte there they begin none
 abbrev pub Placed : Result (Vec Statement Global) Refusal → List ℕ → Type 0
 Placed (Ok v) s = Unit {0}
 Placed (Err (Faulty f)) s = PlacedFault f s
