@@ -66,6 +66,19 @@ def names():
     return found
 
 
+# An import from the kit: what it names keeps its spelling in that file.
+IMPORT = re.compile(r"^\s*(?:pub\s+)?(?:ghost\s+)?use\s+([\w.'-]+)\.\{([^}]*)\}", re.M)
+
+
+def own_table(text, table, crates):
+    kept = set()
+    for module, items in IMPORT.findall(text):
+        parts = module.split(".")
+        if parts[0] != "Rattle" or parts[1] not in crates:
+            kept |= {w for it in items.split(",") for w in it.split()}
+    return {n: new for n, new in table.items() if n not in kept}
+
+
 def turn_text(text, table):
     return TOKEN.sub(lambda m: table.get(m.group(0), m.group(0)), text)
 
@@ -102,13 +115,15 @@ def main():
     for new, olds in sorted(news.items()):
         if len(olds) > 1:
             print("falls together:", new, "from", *sorted(f"{o} ({', '.join(sorted(found[o]))})" for o in olds))
+    crates = set(os.listdir("crates"))
     for old, new in CRATES.items():
         if os.path.isdir(f"crates/{old}"):
             subprocess.run(["git", "mv", f"crates/{old}", f"crates/{new}"], check=True)
     for path in antt("specs") + antt("proofs") + sorted(glob.glob("crates/*/src/**/*.rt", recursive=True)):
         with open(path, encoding="utf-8") as f:
             text = f.read()
-        turned = crate_paths((turn_rt if path.endswith(".rt") else turn_antt)(text, table))
+        turn = turn_rt if path.endswith(".rt") else turn_antt
+        turned = crate_paths(turn(text, own_table(text, table, crates)))
         if turned != text:
             with open(path, "w", encoding="utf-8") as f:
                 f.write(turned)

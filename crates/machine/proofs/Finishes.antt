@@ -1,7 +1,7 @@
 -- What the ends of commands leave is lawful, and is what a host may do.
 use Rattle.std.proofs.Common.{◌≡◌, ℕ, ◌+◌, ◌-◌, ◌<◌, ◌≤◌, Bool, true, false, cond, not, ◌&&◌, eqb, ltb, ◌⊎◌, List, [], ◌∷◌, ◌++◌, map, length, get_or, set, is_some, Some, None, Ok, Option, sym, refl, ap, ◌∙◌, subst, inl, inr, arith, MatchOption}
-use Rattle.std.proofs.lemmas.List.{length-set, length-map, get_or_map}
-use Rattle.std.proofs.lemmas.Bool.{cases_Bool, cond_true, cond_false, and_parts, eqb-true, lt-ltb}
+use Rattle.std.proofs.lemmas.List.{length-set, length-map, get_or-map}
+use Rattle.std.proofs.lemmas.Bool.{cases_Bool, cond-true, cond-false, and_parts, eqb-true, lt-ltb}
 use Rattle.std.specs.List.{remove}
 use Rattle.std.specs.Option.{option_map}
 use Rattle.host.specs.declared.Stamped.{Stamped}
@@ -24,8 +24,8 @@ pub record Fine (v : Volume) (n : ℕ) (u : Volume) : Type 0 where
 
 settled_fine : (b : Bool) (v : Volume) (f m : ℕ) → Stamps v.files v.clock → Fine v 1 (settled b v f m)
 settled_fine b v f m h = elim (cases_Bool (not b && has (at v.files f) m)) [
-  | inl a ↦ subst (Fine v 1) (sym (cond_true _ v _ a)) (record { count = refl; stamps = h; clock = omega arith })
-  | inr z ↦ subst (Fine v 1) (sym (cond_false _ v _ z)) (record { count = length-set v.files f _; stamps = stamps_set v.files v.clock f m h; clock = omega arith })
+  | inl a ↦ subst (Fine v 1) (sym (cond-true _ v _ a)) (record { count = refl; stamps = h; clock = omega arith })
+  | inr z ↦ subst (Fine v 1) (sym (cond-false _ v _ z)) (record { count = length-set v.files f _; stamps = stamps_set v.files v.clock f m h; clock = omega arith })
 ]
 
 all_settled_fine : (b : Bool) (v : Volume) (outs ms : List ℕ) → Stamps v.files v.clock → Fine v (length outs) (all_settled b v outs ms)
@@ -55,8 +55,8 @@ has_holds (Some x) m h = eqb-true x.mark m h
 
 settled_wrote : (b : Bool) (v : Volume) (f m : ℕ) → Wrote v.files v.clock f m (settled b v f m).files (settled b v f m).clock
 settled_wrote b v f m = elim (cases_Bool (not b && has (at v.files f) m)) [
-  | inl a ↦ subst (λ (u : Volume). Wrote v.files v.clock f m u.files u.clock) (sym (cond_true _ v _ a)) (inr (has_holds (at v.files f) m (and_parts (not b) (has (at v.files f) m) a).1, refl, refl))
-  | inr z ↦ subst (λ (u : Volume). Wrote v.files v.clock f m u.files u.clock) (sym (cond_false _ v _ z)) (inl (refl, refl))
+  | inl a ↦ subst (λ (u : Volume). Wrote v.files v.clock f m u.files u.clock) (sym (cond-true _ v _ a)) (inr (has_holds (at v.files f) m (and_parts (not b) (has (at v.files f) m) a).1, refl, refl))
+  | inr z ↦ subst (λ (u : Volume). Wrote v.files v.clock f m u.files u.clock) (sym (cond-false _ v _ z)) (inl (refl, refl))
 ]
 
 all_settled_wrote : (b : Bool) (v : Volume) (outs ms : List ℕ) → length ms ≡ length outs → AllWrote v.files v.clock outs ms (all_settled b v outs ms).files (all_settled b v outs ms).clock
@@ -71,12 +71,12 @@ all_removed_ruined fs t (f ∷ outs) = (set fs f None, t, inr (inl (refl, refl))
 
 -- the command at a place, as the host means it
 pub told_at : (ps : List Pending) (k : ℕ) (p : Pending) → k < length ps → p ≡ get_or ps k p → get_or (map told ps) k no_command ≡ told p
-told_at ps k p l e = get_or_map told ps k p no_command l ∙ ap told (sym e)
+told_at ps k p l e = get_or-map told ps k p no_command l ∙ ap told (sym e)
 
 pub edge_is : (ps : List Pending) (k : ℕ) (p : Pending) → k < length ps → p ≡ get_or ps k p → Some (get_or ps k p).edge ≡ edge_in (map told ps) k
 edge_is ps k p l e =
     ap (λ (q : Pending). Some q.edge) (sym e) ∙ ap (λ (c : Command). Some c.edge) (sym (told_at ps k p l e))
-    ∙ sym (cond_true (ltb k (length (map told ps))) (Some (get_or (map told ps) k no_command).edge) None (lt-ltb k (length (map told ps)) (omega (arith, length-map ps told))))
+    ∙ sym (cond-true (ltb k (length (map told ps))) (Some (get_or (map told ps) k no_command).edge) None (lt-ltb k (length (map told ps)) (omega (arith, length-map ps told))))
 
 leaves_told : (b : Bool) (s : State) (p : Pending) (k : ℕ) → Leaves s (told p).outputs (told p).outcome (without s k (left_by b (volume_of s) (told p).outputs (told p).outcome))
 leaves_told b s p k = go p.hash where
@@ -159,10 +159,10 @@ found_within s e k h = omega (arith, (place_from_found 0 s.pending e k (sym h)).
 
 -- the command at a place has ended
 pub end_state : (b : Bool) (s : State) (k : ℕ) (h : State) → k < length s.pending → h ≡ finished_at b s k → h ≡ finished b s k
-end_state b s k h l e = e ∙ cond_true (ltb k (length s.pending)) (finished b s k) s (lt-ltb k (length s.pending) l)
+end_state b s k h l e = e ∙ cond-true (ltb k (length s.pending)) (finished b s k) s (lt-ltb k (length s.pending) l)
 
 pub ending_is : (s : State) (k : ℕ) → k < length s.pending → ending_at s k ≡ Some (ending s k)
-ending_is s k l = cond_true (ltb k (length s.pending)) (Some (ending s k)) None (lt-ltb k (length s.pending) l)
+ending_is s k l = cond-true (ltb k (length s.pending)) (Some (ending s k)) None (lt-ltb k (length s.pending) l)
 
 pub finish_ends : (P : Type 0) (r : Option Ended) (s t : State) (k : ℕ) → k < length s.pending → r ≡ ending_at s k → MatchOption r P (λ (e : Ended). Ends s e t) → Ends s (ending s k) t
 finish_ends P r s t k l e h = subst (λ (z : Option Ended). MatchOption z P (λ (x : Ended). Ends s x t)) (e ∙ ending_is s k l) h

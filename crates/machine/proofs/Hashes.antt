@@ -1,7 +1,7 @@
 -- FNV-1a over texts in parts, and the length of a command.
 use Rattle.std.proofs.Common.{◌≡◌, ℕ, suc, ◌+◌, ◌<◌, ◌≤◌, Bool, true, false, cond, ◌&&◌, eqb, ltb, List, [], ◌∷◌, ◌++◌, length, get_or, drop, codes, sym, refl, ap, ◌∙◌, inl, inr, arith}
 use Rattle.std.proofs.lemmas.List.{at_drop_more, at_drop_all}
-use Rattle.std.proofs.lemmas.Bool.{cond_true, cond_false, cases_Bool, eq-eqb, ne_eqb, eqb-true, and_left, and_right, lt-ltb}
+use Rattle.std.proofs.lemmas.Bool.{cond-true, cond-false, cases_Bool, eq-eqb, ne_eqb, eqb-true, and_left, and_right, lt-ltb}
 use Rattle.machine.specs.Fnv.{fnv_step, fnv_more, command_text, begins, fails}
 
 pub fnv_more_append : (h : ℕ) (xs ys : List ℕ) → fnv_more h (xs ++ ys) ≡ fnv_more (fnv_more h xs) ys
@@ -10,10 +10,10 @@ fnv_more_append h (x ∷ xs) ys = fnv_more_append (fnv_step h x) xs ys
 
 -- the length of a command, by what is left of the question
 pub text_zero : (q : List ℕ) (i : ℕ) → i < length q → get_or q i 0 ≡ 0 → length (command_text (drop i q)) ≡ 0
-text_zero q i h z = at_drop_more (λ xs. length (command_text xs)) q i 0 h ∙ ap length (cond_true (eqb (get_or q i 0) 0) [] (get_or q i 0 ∷ command_text (drop (i + 1) q)) (eq-eqb _ _ z))
+text_zero q i h z = at_drop_more (λ xs. length (command_text xs)) q i 0 h ∙ ap length (cond-true (eqb (get_or q i 0) 0) [] (get_or q i 0 ∷ command_text (drop (i + 1) q)) (eq-eqb _ _ z))
 
 pub text_more : (q : List ℕ) (i : ℕ) → i < length q → (get_or q i 0 ≡ 0 → ⊥) → length (command_text (drop i q)) ≡ length (command_text (drop (i + 1) q)) + 1
-text_more q i h z = at_drop_more (λ xs. length (command_text xs)) q i 0 h ∙ ap length (cond_false (eqb (get_or q i 0) 0) [] (get_or q i 0 ∷ command_text (drop (i + 1) q)) (ne_eqb _ _ z)) ∙ omega arith
+text_more q i h z = at_drop_more (λ xs. length (command_text xs)) q i 0 h ∙ ap length (cond-false (eqb (get_or q i 0) 0) [] (get_or q i 0 ∷ command_text (drop (i + 1) q)) (ne_eqb _ _ z)) ∙ omega arith
 
 pub text_all : (q : List ℕ) (i : ℕ) → length q ≤ i → length (command_text (drop i q)) ≡ 0
 text_all q i h = at_drop_all (λ xs. length (command_text xs)) q i h
@@ -27,8 +27,8 @@ fnv_end h bs i l = at_drop_all (fnv_more h) bs i l
 -- one byte of a word without byte 0
 begins_step : (k : ℕ) (ks : List ℕ) (b : ℕ) (bs : List ℕ) → 0 < k → begins (k ∷ ks) (command_text (b ∷ bs)) ≡ (eqb b k && begins ks (command_text bs))
 begins_step k ks b bs h = elim (cases_Bool (eqb b 0)) [
-  | inl a ↦ ap (begins (k ∷ ks)) (cond_true (eqb b 0) [] (b ∷ command_text bs) a) ∙ sym (and_left (eqb b k) (begins ks (command_text bs)) (ne_eqb b k (λ e. let z = eqb-true b 0 a in omega arith)))
-  | inr n ↦ ap (begins (k ∷ ks)) (cond_false (eqb b 0) [] (b ∷ command_text bs) n)
+  | inl a ↦ ap (begins (k ∷ ks)) (cond-true (eqb b 0) [] (b ∷ command_text bs) a) ∙ sym (and_left (eqb b k) (begins ks (command_text bs)) (ne_eqb b k (λ e. let z = eqb-true b 0 a in omega arith)))
+  | inr n ↦ ap (begins (k ∷ ks)) (cond-false (eqb b 0) [] (b ∷ command_text bs) n)
 ]
 
 and_two : (x y z : Bool) → y ≡ z → (x && y) ≡ (x && z)
@@ -60,6 +60,6 @@ fails_is (a ∷ b ∷ c ∷ d ∷ r) =
 pub text_short : (q : List ℕ) → length (command_text q) ≤ length q
 text_short [] = omega arith
 text_short (b ∷ q) = elim (cases_Bool (eqb b 0)) [
-  | inl a ↦ omega (arith, ap length (cond_true (eqb b 0) [] (b ∷ command_text q) a))
-  | inr n ↦ omega (arith, ap length (cond_false (eqb b 0) [] (b ∷ command_text q) n), text_short q)
+  | inl a ↦ omega (arith, ap length (cond-true (eqb b 0) [] (b ∷ command_text q) a))
+  | inr n ↦ omega (arith, ap length (cond-false (eqb b 0) [] (b ∷ command_text q) n), text_short q)
 ]

@@ -4,7 +4,7 @@ use Rattle.std.specs.List.{range_with_len, flat_map}
 use Rattle.std.specs.Option.{option_map}
 use Rattle.std.proofs.lemmas.List.{at_drop_more, at_drop_all}
 use Rattle.std.proofs.lemmas.List.FromFn.{length-map-range_with_len}
-use Rattle.std.proofs.lemmas.Bool.{cases_Bool, cond_true, cond_false}
+use Rattle.std.proofs.lemmas.Bool.{cases_Bool, cond-true, cond-false}
 use Rattle.host.specs.declared.Stamped.{Stamped}
 use Rattle.host.specs.State.{Files, at}
 use Rattle.host.specs.Calls.{marks, with_mark, outcome_of}
@@ -48,17 +48,17 @@ marks_same q ms n = map_same _ _ (λ j. sym (fnv_more_append 2166136261 q (flat_
 
 fine : (q : List ℕ) (n : ℕ) (o : Option (List ℕ)) → fails q ≡ false → option_map (marks_from n) (option_map (λ (ms : List ℕ). fnv_more (fnv_1a q) (flat_map low_first ms)) o) ≡ outcome_of hashes q n o
 fine q n None h = refl
-fine q n (Some ms) h = ap (λ (z : List ℕ). Some z) (marks_same q ms n) ∙ sym (cond_false (fails q) None (Some (map (mark_of q ms) (range_with_len 0 n))) h)
+fine q n (Some ms) h = ap (λ (z : List ℕ). Some z) (marks_same q ms n) ∙ sym (cond-false (fails q) None (Some (map (mark_of q ms) (range_with_len 0 n))) h)
 
 failed : (q : List ℕ) (n : ℕ) (o : Option (List ℕ)) → fails q ≡ true → None ≡ outcome_of hashes q n o
 failed q n None h = refl
-failed q n (Some ms) h = sym (cond_true (fails q) None (Some (map (mark_of q ms) (range_with_len 0 n))) h)
+failed q n (Some ms) h = sym (cond-true (fails q) None (Some (map (mark_of q ms) (range_with_len 0 n))) h)
 
 -- the outcome that a started command is kept with is the one that the host means
 pub outcome_kept : (fs : Files) (q rs : List ℕ) (n : ℕ) → option_map (marks_from n) (hash_of fs q rs) ≡ outcome_of hashes q n (marks fs rs)
 outcome_kept fs q rs n = elim (cases_Bool (fails q)) [
-  | inl a ↦ ap (option_map (marks_from n)) (cond_true (fails q) None (hash_from fs (fnv_1a q) rs) a) ∙ failed q n (marks fs rs) a
-  | inr b ↦ ap (option_map (marks_from n)) (cond_false (fails q) None (hash_from fs (fnv_1a q) rs) b ∙ hash_marks fs (fnv_1a q) rs) ∙ fine q n (marks fs rs) b
+  | inl a ↦ ap (option_map (marks_from n)) (cond-true (fails q) None (hash_from fs (fnv_1a q) rs) a) ∙ failed q n (marks fs rs) a
+  | inr b ↦ ap (option_map (marks_from n)) (cond-false (fails q) None (hash_from fs (fnv_1a q) rs) b ∙ hash_marks fs (fnv_1a q) rs) ∙ fine q n (marks fs rs) b
 ]
 
 some_list : (xs ys : List ℕ) → ◌≡◌ {A = Option (List ℕ)} (Some xs) (Some ys) → xs ≡ ys
@@ -70,6 +70,6 @@ none_list ys e = let z : ◌≡◌ {A = ℕ} 0 1 = cc in omega arith
 -- a question that does not fail has one mark for each output
 pub hashes_each : (q rs ms : List ℕ) (n : ℕ) → hashes q rs n ≡ Some ms → length ms ≡ n
 hashes_each q rs ms n h = elim (cases_Bool (fails q)) [
-  | inl a ↦ absurd (none_list ms (sym (cond_true (fails q) None (Some (map (mark_of q rs) (range_with_len 0 n))) a) ∙ h))
-  | inr b ↦ ap length (sym (some_list _ ms (sym (cond_false (fails q) None (Some (map (mark_of q rs) (range_with_len 0 n))) b) ∙ h))) ∙ length-map-range_with_len (mark_of q rs) 0 n
+  | inl a ↦ absurd (none_list ms (sym (cond-true (fails q) None (Some (map (mark_of q rs) (range_with_len 0 n))) a) ∙ h))
+  | inr b ↦ ap length (sym (some_list _ ms (sym (cond-false (fails q) None (Some (map (mark_of q rs) (range_with_len 0 n))) b) ∙ h))) ∙ length-map-range_with_len (mark_of q rs) 0 n
 ]

@@ -1,7 +1,7 @@
 -- The place of an edge's command.
 use Rattle.std.proofs.Common.{◌≡◌, ℕ, suc, ◌+◌, ◌-◌, ◌<◌, ◌≤◌, Bool, true, false, cond, ◌||◌, eqb, List, [], ◌∷◌, map, length, get_or, drop, is_some, Some, None, Option, sym, refl, ap, ◌∙◌, inl, inr, arith}
 use Rattle.std.proofs.lemmas.List.{at_drop_more, at_drop_all, get_or_read, length-map}
-use Rattle.std.proofs.lemmas.Bool.{cases_Bool, cond_true, cond_false, eq-eqb, ne_eqb, eqb-true}
+use Rattle.std.proofs.lemmas.Bool.{cases_Bool, cond-true, cond-false, eq-eqb, ne_eqb, eqb-true}
 use Rattle.host.specs.State.{Command, pends, edge_at, no_command}
 use Rattle.machine.specs.declared.command.Pending.{Pending}
 use Rattle.machine.specs.Pendings.{told}
@@ -11,13 +11,13 @@ use Rattle.machine.specs.Ends.{place_from}
 pub place_here : (ys : List Pending) (i e : ℕ) (p : Pending) → i < length ys → p ≡ get_or ys i p → p.edge ≡ e → place_from i (map told (drop i ys)) e ≡ Some i
 place_here ys i e p l is k =
     at_drop_more (λ (z : List Pending). place_from i (map told z) e) ys i p l
-    ∙ cond_true (eqb (get_or ys i p).edge e) (Some i) (place_from (i + 1) (map told (drop (i + 1) ys)) e) (eq-eqb _ _ (ap (λ (z : Pending). z.edge) (sym is) ∙ k))
+    ∙ cond-true (eqb (get_or ys i p).edge e) (Some i) (place_from (i + 1) (map told (drop (i + 1) ys)) e) (eq-eqb _ _ (ap (λ (z : Pending). z.edge) (sym is) ∙ k))
 
 -- it is not
 pub place_next : (ys : List Pending) (i e : ℕ) (p : Pending) → i < length ys → p ≡ get_or ys i p → (p.edge ≡ e → ⊥) → place_from (i + 1) (map told (drop (i + 1) ys)) e ≡ place_from i (map told (drop i ys)) e
 place_next ys i e p l is k =
     sym (at_drop_more (λ (z : List Pending). place_from i (map told z) e) ys i p l
-    ∙ cond_false (eqb (get_or ys i p).edge e) (Some i) (place_from (i + 1) (map told (drop (i + 1) ys)) e) (ne_eqb _ _ (λ q. k (ap (λ (z : Pending). z.edge) is ∙ q))))
+    ∙ cond-false (eqb (get_or ys i p).edge e) (Some i) (place_from (i + 1) (map told (drop (i + 1) ys)) e) (ne_eqb _ _ (λ q. k (ap (λ (z : Pending). z.edge) is ∙ q))))
 
 -- there is no command left
 pub place_none : (ps : List Pending) (i e : ℕ) → length ps ≤ i → place_from i (map told (drop i ps)) e ≡ None
@@ -34,11 +34,11 @@ pub place_from_found : (i : ℕ) (cs : List Command) (e k : ℕ) → place_from 
 place_from_found i [] e k h = absurd (none_some k h)
 place_from_found i (c ∷ cs) e k h = elim (cases_Bool (eqb c.edge e)) [
   | inl a ↦
-      let q : i ≡ k = some_out i k (sym (cond_true (eqb c.edge e) (Some i) (place_from (i + 1) cs e) a) ∙ h) in
+      let q : i ≡ k = some_out i k (sym (cond-true (eqb c.edge e) (Some i) (place_from (i + 1) cs e) a) ∙ h) in
       let z : k - i ≡ 0 = omega arith in
       (omega arith, omega arith, ap (edge_at (c ∷ cs)) z ∙ eqb-true c.edge e a)
   | inr b ↦
-      let r = place_from_found (i + 1) cs e k (sym (cond_false (eqb c.edge e) (Some i) (place_from (i + 1) cs e) b) ∙ h) in
+      let r = place_from_found (i + 1) cs e k (sym (cond-false (eqb c.edge e) (Some i) (place_from (i + 1) cs e) b) ∙ h) in
       let z : k - i ≡ suc (k - (i + 1)) = omega (arith, r.0) in
       (omega (arith, r.0), omega (arith, r.1, r.0), ap (edge_at (c ∷ cs)) z ∙ r.2)
 ]
@@ -47,6 +47,6 @@ place_from_found i (c ∷ cs) e k h = elim (cases_Bool (eqb c.edge e)) [
 pub place_from_some : (i : ℕ) (cs : List Command) (e : ℕ) → is_some (place_from i cs e) ≡ pends cs e
 place_from_some i [] e = refl
 place_from_some i (c ∷ cs) e = elim (cases_Bool (eqb c.edge e)) [
-  | inl a ↦ ap is_some (cond_true (eqb c.edge e) (Some i) (place_from (i + 1) cs e) a) ∙ sym (ap (λ (b : Bool). b || pends cs e) a)
-  | inr b ↦ ap is_some (cond_false (eqb c.edge e) (Some i) (place_from (i + 1) cs e) b) ∙ place_from_some (i + 1) cs e ∙ sym (ap (λ (b : Bool). b || pends cs e) b)
+  | inl a ↦ ap is_some (cond-true (eqb c.edge e) (Some i) (place_from (i + 1) cs e) a) ∙ sym (ap (λ (b : Bool). b || pends cs e) a)
+  | inr b ↦ ap is_some (cond-false (eqb c.edge e) (Some i) (place_from (i + 1) cs e) b) ∙ place_from_some (i + 1) cs e ∙ sym (ap (λ (b : Bool). b || pends cs e) b)
 ]

@@ -1,7 +1,7 @@
 -- One turn of the search for the earliest, and its two ends, from the order's laws.
 use Rattle.std.proofs.Common.{◌≡◌, ℕ, zero, suc, ◌+◌, ◌<◌, ◌≤◌, Bool, true, false, cond, ◌⊎◌, List, [], ◌∷◌, length, get_or, drop, Some, None, Option, sym, refl, ap, ◌∙◌, subst, subst₂, inl, inr, arith, below_more}
 use Rattle.std.proofs.lemmas.List.{get_or_read, drop_more, drop_all}
-use Rattle.std.proofs.lemmas.Bool.{cases_Bool, cases_order, both_ways, cond_true, cond_false}
+use Rattle.std.proofs.lemmas.Bool.{cases_Bool, cases_order, both_ways, cond-true, cond-false}
 use Rattle.order.specs.Earliest.{earliest_from, earliest_place, Earliest, SoFar}
 
 module _ {X : Type 0} (before : X → X → Bool)
@@ -37,10 +37,10 @@ module _ {X : Type 0} (before : X → X → Bool)
   answer_more : (xs : List X) (n r s : ℕ) (d : X) → n < length xs → (b : Bool) → before (get_or xs n d) (get_or xs r d) ≡ b → s ≡ cond b n r → earliest_from before (get_or xs s d) s (n + 1) (drop (n + 1) xs) ≡ earliest_from before (get_or xs r d) r n (drop n xs)
   answer_more xs n r s d l true t e =
       ap (λ (z : ℕ). earliest_from before (get_or xs z d) z (n + 1) (drop (n + 1) xs)) e
-      ∙ sym (ap (earliest_from before (get_or xs r d) r n) (drop_more xs n d l) ∙ cond_true (before (get_or xs n d) (get_or xs r d)) _ _ t)
+      ∙ sym (ap (earliest_from before (get_or xs r d) r n) (drop_more xs n d l) ∙ cond-true (before (get_or xs n d) (get_or xs r d)) _ _ t)
   answer_more xs n r s d l false t e =
       ap (λ (z : ℕ). earliest_from before (get_or xs z d) z (n + 1) (drop (n + 1) xs)) e
-      ∙ sym (ap (earliest_from before (get_or xs r d) r n) (drop_more xs n d l) ∙ cond_false (before (get_or xs n d) (get_or xs r d)) _ _ t)
+      ∙ sym (ap (earliest_from before (get_or xs r d) r n) (drop_more xs n d l) ∙ cond-false (before (get_or xs n d) (get_or xs r d)) _ _ t)
 
   -- the record at n comes before the earliest so far
   pub so_far_takes : (xs : List X) (n r : ℕ) (x y : X) → n < length xs → x ≡ get_or xs n x → y ≡ get_or xs r y → true ≡ before x y → SoFar before xs n r → SoFar before xs (n + 1) n

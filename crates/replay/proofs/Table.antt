@@ -1,6 +1,6 @@
 -- The table of turns, and the replay after a poll.
 use Rattle.std.proofs.Common.{◌≡◌, ℕ, ◌+◌, ◌-◌, ◌<◌, ◌≤◌, Bool, List, [], ◌∷◌, ◌++◌, map, length, get_or, take, drop, set, Option, sym, refl, ap, ◌∙◌, subst, arith, MatchOption}
-use Rattle.std.proofs.lemmas.List.{length-map, get_or_map, take_more, take_more_set, take_all}
+use Rattle.std.proofs.lemmas.List.{length-map, get_or-map, take_more, take_more_set, take_all}
 use Rattle.host.specs.State.{State, Command, no_command}
 use Rattle.machine.specs.Ends.{finished}
 use Rattle.machine.specs.Machines.{state_of, capacity_of}
@@ -20,7 +20,7 @@ pub length_turns : (r : Rep) → length (turns r) ≡ length r.host.pending
 length_turns r = length-map r.host.pending (λ (c : Command). turn_of r.left c.edge)
 
 turns_at : (r : Rep) (k : ℕ) (d : Turn) → k < length r.host.pending → get_or (turns r) k d ≡ turn_at r k
-turns_at r k d l = get_or_map (λ (c : Command). turn_of r.left c.edge) r.host.pending k no_command d l
+turns_at r k d l = get_or-map (λ (c : Command). turn_of r.left c.edge) r.host.pending k no_command d l
 
 -- one turn more stands in the table
 pub table_more : (r : Rep) (ts : List Turn) (k : ℕ) (t : Turn) → k < length ts → k < length r.host.pending → t ≡ turn_at r k → take k ts ≡ take k (turns r) → take (k + 1) (set ts k t) ≡ take (k + 1) (turns r)

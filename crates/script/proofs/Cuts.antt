@@ -1,14 +1,14 @@
 -- A line is cut at its first colon with a space behind it.
 use Rattle.std.proofs.Common.{◌≡◌, ℕ, zero, suc, ◌+◌, ◌-◌, ◌<◌, ◌≤◌, Bool, true, false, cond, ◌&&◌, eqb, List, [], ◌∷◌, ◌++◌, length, get_or, take, drop, Some, None, Option, sym, refl, ap, ◌∙◌, inl, inr, arith}
 use Rattle.std.proofs.lemmas.List.{append-nil, append_assoc, take_rest}
-use Rattle.std.proofs.lemmas.Bool.{cond_true, cond_false, eq-eqb, ne_eqb, eqb-true, cases_Bool, and_left, and_right}
+use Rattle.std.proofs.lemmas.Bool.{cond-true, cond-false, eq-eqb, ne_eqb, eqb-true, cases_Bool, and_left, and_right}
 use Rattle.script.specs.Colons.{Colon, NoColon, spaced, cut_from, cut_of}
 
 -- a colon with a space behind it, in front
 cut_here : (h : List ℕ) (b : ℕ) (bs : List ℕ) → b ≡ 58 → 0 < length bs → get_or bs 0 0 ≡ 32 → cut_from h (b ∷ bs) ≡ Some (h, drop 1 bs)
 cut_here h b [] e l s = absurd (omega arith)
 cut_here h b (d ∷ bs) e l s =
-    cond_true (eqb b 58 && eqb d 32) (Some (h, bs)) (cut_from (h ++ (b ∷ [])) (d ∷ bs)) (ap (λ (v : Bool). v && eqb d 32) (eq-eqb b 58 e) ∙ eq-eqb d 32 s)
+    cond-true (eqb b 58 && eqb d 32) (Some (h, bs)) (cut_from (h ++ (b ∷ [])) (d ∷ bs)) (ap (λ (v : Bool). v && eqb d 32) (eq-eqb b 58 e) ∙ eq-eqb d 32 s)
 
 spaced_not : (bs : List ℕ) → (0 < length bs → get_or bs 0 0 ≡ 32 → ⊥) → spaced bs ≡ false
 spaced_not [] n = refl
@@ -16,7 +16,7 @@ spaced_not (d ∷ bs) n = ne_eqb d 32 (n (omega arith))
 
 -- none in front
 cut_on : (h : List ℕ) (b : ℕ) (bs : List ℕ) → (b ≡ 58 → 0 < length bs → get_or bs 0 0 ≡ 32 → ⊥) → cut_from h (b ∷ bs) ≡ cut_from (h ++ (b ∷ [])) bs
-cut_on h b bs n = cond_false (eqb b 58 && spaced bs) (Some (h, drop 1 bs)) (cut_from (h ++ (b ∷ [])) bs) off where
+cut_on h b bs n = cond-false (eqb b 58 && spaced bs) (Some (h, drop 1 bs)) (cut_from (h ++ (b ∷ [])) bs) off where
   off : (eqb b 58 && spaced bs) ≡ false
   off = elim (cases_Bool (eqb b 58)) [
     | inl on ↦ and_right (eqb b 58) (spaced bs) (spaced_not bs (n (eqb-true b 58 on)))

@@ -2,7 +2,7 @@
 use Rattle.std.proofs.Common.{◌≡◌, ℕ, suc, ◌+◌, ◌-◌, ◌*◌, ◌<◌, ◌≤◌, min, Bool, true, false, ◌&&◌, eqb, ◌⊎◌, List, [], ◌∷◌, length, get_or, take, drop, None, sym, refl, ap, ◌∙◌, inl, inr, arith}
 use native.Mathlib.Nat.{min-eq_left, min-eq_right}
 use Rattle.std.proofs.lemmas.List.{at_drop_more, at_drop_all, take_rest}
-use Rattle.std.proofs.lemmas.Bool.{and_left, cases_lt, cond_true, eq-eqb}
+use Rattle.std.proofs.lemmas.Bool.{and_left, cases_lt, cond-true, eq-eqb}
 use Rattle.script.specs.Decimals.{is_digit, all_digits, digits_more, decimal_of, file_of}
 
 -- a loop that looks for a byte that is no digit
@@ -43,4 +43,4 @@ value_end v top bs i l = at_drop_all (λ (xs : List ℕ). min (digits_more v xs)
 -- a word that begins with `#` is a file's if a number follows; what follows is as a pattern's rest has it
 pub file_behind : (bs : List ℕ) → 0 < length bs → get_or bs 0 0 ≡ 35 → decimal_of (take (length bs - 1) (drop 1 bs)) ≡ file_of bs
 file_behind [] h e = absurd (omega arith)
-file_behind (b ∷ bs) h e = ap decimal_of (take_rest (b ∷ bs) 1) ∙ sym (cond_true (eqb b 35) (decimal_of bs) None (eq-eqb b 35 e))
+file_behind (b ∷ bs) h e = ap decimal_of (take_rest (b ∷ bs) 1) ∙ sym (cond-true (eqb b 35) (decimal_of bs) None (eq-eqb b 35 e))

@@ -1,15 +1,15 @@
 -- Lines and words, by the places where they are cut.
 use Rattle.std.proofs.Common.{◌≡◌, ℕ, zero, suc, ◌+◌, ◌-◌, ◌<◌, ◌≤◌, Bool, true, false, cond, eqb, List, [], ◌∷◌, ◌++◌, length, get_or, take, drop, sym, refl, ap, ◌∙◌, arith}
 use Rattle.std.proofs.lemmas.List.{append-nil, append_assoc, length-drop, get_or-drop, drop-drop, take_all}
-use Rattle.std.proofs.lemmas.Bool.{cond_true, cond_false, eq-eqb, ne_eqb}
+use Rattle.std.proofs.lemmas.Bool.{cond-true, cond-false, eq-eqb, ne_eqb}
 use Rattle.script.specs.Texts.{word_before, words_from, words_of, lines_from, lines_of}
 
 -- one byte of a line
 words_space : (w : List ℕ) (b : ℕ) (bs : List ℕ) → b ≡ 32 → words_from w (b ∷ bs) ≡ word_before w (words_of bs)
-words_space w b bs e = cond_true (eqb b 32) (word_before w (words_from [] bs)) (words_from (w ++ (b ∷ [])) bs) (eq-eqb b 32 e)
+words_space w b bs e = cond-true (eqb b 32) (word_before w (words_from [] bs)) (words_from (w ++ (b ∷ [])) bs) (eq-eqb b 32 e)
 
 words_byte : (w : List ℕ) (b : ℕ) (bs : List ℕ) → (b ≡ 32 → ⊥) → words_from w (b ∷ bs) ≡ words_from (w ++ (b ∷ [])) bs
-words_byte w b bs e = cond_false (eqb b 32) (word_before w (words_from [] bs)) (words_from (w ++ (b ∷ [])) bs) (ne_eqb b 32 e)
+words_byte w b bs e = cond-false (eqb b 32) (word_before w (words_from [] bs)) (words_from (w ++ (b ∷ [])) bs) (ne_eqb b 32 e)
 
 -- spaces in front are nothing
 pub words_skip : (bs : List ℕ) (k : ℕ) → k ≤ length bs → ((j : ℕ) → j < k → get_or bs j 0 ≡ 32) → words_of (drop k bs) ≡ words_of bs
@@ -58,16 +58,16 @@ no_word line (b ∷ bs) k p h all stops e z found = absurd (stops inside (sym he
 lines_cut : (l bs : List ℕ) (p : ℕ) → p < length bs → ((j : ℕ) → j < p → get_or bs j 0 ≡ 10 → ⊥) → get_or bs p 0 ≡ 10 → lines_from l bs ≡ (l ++ take p bs) ∷ lines_of (drop (suc p) bs)
 lines_cut l [] p h before found = absurd (omega arith)
 lines_cut l (b ∷ bs) zero h before found =
-    cond_true (eqb b 10) (l ∷ lines_from [] bs) (lines_from (l ++ (b ∷ [])) bs) (eq-eqb b 10 found) ∙ ap (λ (v : List ℕ). v ∷ lines_of bs) (sym (append-nil l))
+    cond-true (eqb b 10) (l ∷ lines_from [] bs) (lines_from (l ++ (b ∷ [])) bs) (eq-eqb b 10 found) ∙ ap (λ (v : List ℕ). v ∷ lines_of bs) (sym (append-nil l))
 lines_cut l (b ∷ bs) (suc p) h before found =
-    cond_false (eqb b 10) (l ∷ lines_from [] bs) (lines_from (l ++ (b ∷ [])) bs) (ne_eqb b 10 (before 0 (omega arith)))
+    cond-false (eqb b 10) (l ∷ lines_from [] bs) (lines_from (l ++ (b ∷ [])) bs) (ne_eqb b 10 (before 0 (omega arith)))
     ∙ (lines_cut (l ++ (b ∷ [])) bs p (omega arith) (λ j h'. before (suc j) (omega arith)) found
     ∙ ap (λ (v : List ℕ). v ∷ lines_of (drop (suc p) bs)) (append_assoc l (b ∷ []) (take p bs)))
 
 lines_last : (l bs : List ℕ) → ((j : ℕ) → j < length bs → get_or bs j 0 ≡ 10 → ⊥) → lines_from l bs ≡ word_before (l ++ bs) []
 lines_last l [] before = ap (λ (v : List ℕ). word_before v []) (sym (append-nil l))
 lines_last l (b ∷ bs) before =
-    cond_false (eqb b 10) (l ∷ lines_from [] bs) (lines_from (l ++ (b ∷ [])) bs) (ne_eqb b 10 (before 0 (omega arith)))
+    cond-false (eqb b 10) (l ∷ lines_from [] bs) (lines_from (l ++ (b ∷ [])) bs) (ne_eqb b 10 (before 0 (omega arith)))
     ∙ (lines_last (l ++ (b ∷ [])) bs (λ j h'. before (suc j) (omega arith)) ∙ ap (λ (v : List ℕ). word_before v []) (append_assoc l (b ∷ []) bs))
 
 -- the first line of a script that is not at its end

@@ -2,7 +2,7 @@
 use Rattle.std.proofs.Common.{◌≡◌, ℕ, ◌+◌, ◌*◌, ◌<◌, ◌≤◌, Bool, true, false, cond, ltb, List, [], ◌∷◌, ◌++◌, map, length, get_or, is_some, is_ok, Some, None, Ok, Err, vec_items, Option, Result, sym, refl, ap, ◌∙◌, subst, arith}
 use Rattle.std.specs.List.{remove}
 use Rattle.std.proofs.lemmas.List.{get_or_read}
-use Rattle.std.proofs.lemmas.Bool.{cond_false, le-ltb, both_ways}
+use Rattle.std.proofs.lemmas.Bool.{cond-false, le-ltb, both_ways}
 use Rattle.host.specs.declared.Refusal.{Refusal}
 use Rattle.host.specs.declared.Refusal.TheVariants.{BadCall}
 use Rattle.host.specs.Refusals.{clock_answer}
@@ -42,23 +42,23 @@ end_timed s k h t d ds l is tick p e up ok =
 -- the command of an edge is broken off
 pub drop_exact : (s : Sim) (e k : ℕ) (h : State) (ds : List Due) → e ≤ 127 → Some k ≡ place_of s.host e → h ≡ broken s.host e → ds ≡ remove s.dues k → record { host = h; tick = s.tick; dues = ds } ≡ sim_broken s e
 drop_exact s e k h ds l at hs q =
-    let b : h ≡ broken_at s.host k = hs ∙ cond_false (ltb 127 e) s.host (broken_by s.host (place_of s.host e)) (le-ltb 127 e l) ∙ ap (broken_by s.host) (sym at) in
-    (λ i. record { host = b i; tick = s.tick; dues = q i }) ∙ ap (sim_dropped s) at ∙ sym (cond_false (ltb 127 e) s (sim_dropped s (place_of s.host e)) (le-ltb 127 e l))
+    let b : h ≡ broken_at s.host k = hs ∙ cond-false (ltb 127 e) s.host (broken_by s.host (place_of s.host e)) (le-ltb 127 e l) ∙ ap (broken_by s.host) (sym at) in
+    (λ i. record { host = b i; tick = s.tick; dues = q i }) ∙ ap (sim_dropped s) at ∙ sym (cond-false (ltb 127 e) s (sim_dropped s (place_of s.host e)) (le-ltb 127 e l))
 
 pub drop_state : (s : State) (e k : ℕ) (h : State) → e ≤ 127 → Some k ≡ place_of s e → h ≡ broken s e → h ≡ broken_at s k
-drop_state s e k h l at hs = hs ∙ cond_false (ltb 127 e) s (broken_by s (place_of s e)) (le-ltb 127 e l) ∙ ap (broken_by s) (sym at)
+drop_state s e k h l at hs = hs ∙ cond-false (ltb 127 e) s (broken_by s (place_of s e)) (le-ltb 127 e l) ∙ ap (broken_by s) (sym at)
 
 pub drop_none : (s : Sim) (e : ℕ) → e ≤ 127 → None ≡ place_of s.host e → s ≡ sim_broken s e
-drop_none s e l at = ap (sim_dropped s) at ∙ sym (cond_false (ltb 127 e) s (sim_dropped s (place_of s.host e)) (le-ltb 127 e l))
+drop_none s e l at = ap (sim_dropped s) at ∙ sym (cond-false (ltb 127 e) s (sim_dropped s (place_of s.host e)) (le-ltb 127 e l))
 
 -- a break-off up to edge 127 is not refused
 pub break_taken : (r : Result Bool Refusal) (s : State) (e : ℕ) → e ≤ 127 → r ≡ break_answer s e → is_ok r ≡ false → ⊥
 break_taken r s e l q off =
-    let k : r ≡ Ok (is_some (place_of s e)) = q ∙ cond_false (ltb 127 e) (Err BadCall) (Ok (is_some (place_of s e))) (le-ltb 127 e l) in
+    let k : r ≡ Ok (is_some (place_of s e)) = q ∙ cond-false (ltb 127 e) (Err BadCall) (Ok (is_some (place_of s e))) (le-ltb 127 e l) in
     both_ways (is_ok r) off (ap is_ok k)
 
 pub break_none : (s : State) (e : ℕ) → e ≤ 127 → None ≡ place_of s e → Ok false ≡ break_answer s e
-break_none s e l at = ap (λ (z : Option ℕ). Ok (is_some z)) at ∙ sym (cond_false (ltb 127 e) (Err BadCall) (Ok (is_some (place_of s e))) (le-ltb 127 e l))
+break_none s e l at = ap (λ (z : Option ℕ). Ok (is_some z)) at ∙ sym (cond-false (ltb 127 e) (Err BadCall) (Ok (is_some (place_of s e))) (le-ltb 127 e l))
 
 -- a start that is refused
 pub refused_is : (o : Option Refusal) (s : State) (r : Refusal) → Err r ≡ clock_answer o s → o ≡ Some r

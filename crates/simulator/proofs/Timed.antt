@@ -1,7 +1,7 @@
 -- What the simulator's invariant says of its dues, through each call.
 use Rattle.std.proofs.Common.{◌≡◌, ℕ, ◌+◌, ◌*◌, ◌<◌, ◌≤◌, Bool, List, [], ◌∷◌, ◌++◌, map, length, get_or, Some, None, sym, refl, ap, ◌∙◌, subst, inl, inr, arith}
 use Rattle.std.specs.List.{remove}
-use Rattle.std.proofs.lemmas.List.{length-map, length_push, map_push, get_or_map, get_or_push, get_or_append_left, get_or_read, nil_from_length}
+use Rattle.std.proofs.lemmas.List.{length-map, length_push, map_push, get_or-map, get_or_push, get_or_append_left, get_or_read, nil_from_length}
 use Rattle.std.proofs.lemmas.List.Edits.{length-remove, get_or-remove_below, get_or-remove_above}
 use Rattle.std.proofs.lemmas.Bool.{cases_lt}
 use Rattle.host.specs.State.{State, Command, no_command}
@@ -24,8 +24,8 @@ paired_length s h = sym (length-map s.host.pending (λ (c : Command). c.edge)) �
 -- the due at a place is of the edge of the command there
 pub paired_at : (s : Sim) (k : ℕ) → Timed s → k < length s.dues → (get_or s.dues k no_due).edge ≡ (get_or s.host.pending k no_command).edge
 paired_at s k h l =
-    sym (get_or_map due_edge s.dues k no_due 0 l) ∙ ap (λ (z : List ℕ). get_or z k 0) h.paired
-    ∙ get_or_map (λ (c : Command). c.edge) s.host.pending k no_command 0 (omega (arith, paired_length s h))
+    sym (get_or-map due_edge s.dues k no_due 0 l) ∙ ap (λ (z : List ℕ). get_or z k 0) h.paired
+    ∙ get_or-map (λ (c : Command). c.edge) s.host.pending k no_command 0 (omega (arith, paired_length s h))
 
 -- an accepted start
 pub timed_start : (s : Sim) (c : Command) (bytes : ℕ) → bytes ≤ 1024 → Timed s → Timed (sim_started None s c bytes)
