@@ -11,6 +11,6 @@ returns-then-is-empty c =
 pub returns : goal.returns
 returns c =
     let some : 0 < length c.args.script.now = search rules in
-    let first = first_line c.args.script.now c.split-at.result.1.now c.place-of.result some c.place-of.ensures.within c.place-of.ensures.before c.place-of.ensures.found
-    c.split-at.ensures.back in
-    (search rules, omega (arith, ap length c.past-first.ensures.value, length-drop 1 c.split-at.result.1.now, c.split-at.ensures.back_len, some))
+    let first = first_line c.args.script.now c.split_at.result.1.now c.place_of.result some c.place_of.ensures.within c.place_of.ensures.before c.place_of.ensures.found
+    c.split_at.ensures.back in
+    (search rules, omega (arith, ap length c.past_first.ensures.value, length-drop 1 c.split_at.result.1.now, c.split_at.ensures.back_len, some))

@@ -11,8 +11,8 @@ returns-then-is-empty c =
 
 pub returns : goal.returns
 returns c =
-    let some : 0 < length c.split-at-2.result.0.now = search rules in
-    let first = first_word c.args.line.now c.split-at.result.1.now c.spaces.result c.place-of.result c.spaces.ensures.within c.spaces.ensures.all
-    c.split-at.ensures.back c.place-of.ensures.within c.place-of.ensures.before c.place-of.ensures.found in
-    let word = word_some c.split-at-2.result.0.now (words_of c.split-at-2.result.1.now) some in
+    let some : 0 < length c.split_at-2.result.0.now = search rules in
+    let first = first_word c.args.line.now c.split_at.result.1.now c.spaces.result c.place_of.result c.spaces.ensures.within c.spaces.ensures.all
+    c.split_at.ensures.back c.place_of.ensures.within c.place_of.ensures.before c.place_of.ensures.found in
+    let word = word_some c.split_at-2.result.0.now (words_of c.split_at-2.result.1.now) some in
     (search rules, search rules)
