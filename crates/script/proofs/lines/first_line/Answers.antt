@@ -3,8 +3,8 @@ use Rattle.std.proofs.lemmas.List.{length-drop}
 use Rattle.script.proofs.Parts.{first_line, no_lines}
 use Rattle.script.proofs.lines.first_line.Goals as goal
 
-pub returns-then-is-empty : goal.returns-then-is-empty
-returns-then-is-empty c =
+pub returns-then-is_empty : goal.returns-then-is_empty
+returns-then-is_empty c =
     let none : length c.args.script.now ≡ 0 = search rules in
     no_lines c.args.script.now none
 

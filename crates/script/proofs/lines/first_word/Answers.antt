@@ -3,11 +3,11 @@ use Rattle.script.specs.Texts.{words_of}
 use Rattle.script.proofs.Parts.{first_word, word_some, no_word}
 use Rattle.script.proofs.lines.first_word.Goals as goal
 
-pub returns-then-is-empty : goal.returns-then-is-empty
-returns-then-is-empty c =
-    let none : c.place-of.result ≡ 0 = search rules in
-    no_word c.args.line.now c.split-at.result.1.now c.spaces.result c.place-of.result c.spaces.ensures.within c.spaces.ensures.all c.spaces.ensures.stops
-    c.split-at.ensures.back none c.place-of.ensures.found
+pub returns-then-is_empty : goal.returns-then-is_empty
+returns-then-is_empty c =
+    let none : c.place_of.result ≡ 0 = search rules in
+    no_word c.args.line.now c.split_at.result.1.now c.spaces.result c.place_of.result c.spaces.ensures.within c.spaces.ensures.all c.spaces.ensures.stops
+    c.split_at.ensures.back none c.place_of.ensures.found
 
 pub returns : goal.returns
 returns c =
