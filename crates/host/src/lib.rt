@@ -97,7 +97,7 @@ pub trait Host: FileView {
 
     ghost bounds: { (1 ≤ capacity) × (capacity ≤ 64) };
 
-    ghost sees: { (h : Self) → (state h).files ≡ files h };
+    ghost sees: { (h : Self) → (state h).files ≡ Self.files h };
 
     ghost lawful: { (h : Self) → Lawful capacity (state h) };
 

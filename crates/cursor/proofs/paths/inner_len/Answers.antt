@@ -8,5 +8,5 @@ loop-n-preserved c = search (rules, inner_more)
 pub returns-after-loop-n : goal.returns-after-loop-n
 returns-after-loop-n c = search (rules, inner_end)
 
-pub returns-else-is-inner : goal.returns-else-is-inner
-returns-else-is-inner c = search (rules, inner_stop)
+pub returns-else-is_inner : goal.returns-else-is_inner
+returns-else-is_inner c = search (rules, inner_stop)

@@ -5,14 +5,14 @@ use Rattle.cursor.proofs.place.Cursor.path.Goals as goal
 pub loop-self-preserved-in-32 : goal.loop-self-preserved-in-32
 loop-self-preserved-in-32 c = (search (rules, walk_blank), search rules)
 
-pub returns-then-not-is-escaped : goal.returns-then-not-is-escaped
-returns-then-not-is-escaped c = search (rules, walk_dollar)
+pub returns-then-not-is_escaped : goal.returns-then-not-is_escaped
+returns-then-not-is_escaped c = search (rules, walk_dollar)
 
 pub loop-self-preserved-in-36 : goal.loop-self-preserved-in-36
 loop-self-preserved-in-36 c = (search (rules, walk_escape), search rules)
 
 pub loop-self-preserved : goal.loop-self-preserved
-loop-self-preserved c = (c.skip-inner.ensures.run ∙ search (rules, walk_plain), search rules)
+loop-self-preserved c = (c.skip_inner.ensures.run ∙ search (rules, walk_plain), search rules)
 
 pub returns-in-58 : goal.returns-in-58
 returns-in-58 c = search (rules, walk_mark)

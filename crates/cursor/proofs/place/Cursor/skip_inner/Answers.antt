@@ -6,4 +6,4 @@ pub advance-requires : goal.advance-requires
 advance-requires c = search (rules, inner_within)
 
 pub returns : goal.returns
-returns c = record { run = search (rules, walk_inner); less = omega (arith, ap length c.advance.ensures.rest, length-drop c.inner-len-n.result c.args.self.now.rest.now) }
+returns c = record { run = search (rules, walk_inner); less = omega (arith, ap length c.advance.ensures.rest, length-drop c.inner_len-n.result c.args.self.now.rest.now) }

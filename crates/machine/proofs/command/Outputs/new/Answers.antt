@@ -3,8 +3,8 @@ use Rattle.std.proofs.lemmas.List.{length-set, take_all}
 use Rattle.machine.proofs.Lists.{strays_none, copy_more}
 use Rattle.machine.proofs.command.Outputs.new.Goals as goal
 
-pub overflow-cast-table : goal.overflow-cast-table
-overflow-cast-table c = let h = strays_none c.args.files.now c.loop-i.i c.requires.within c.loop-i-test.true in search rules
+pub overflow_cast-table : goal.overflow_cast-table
+overflow_cast-table c = let h = strays_none c.args.files.now c.loop-i.i c.requires.within c.loop-i-test.true in search rules
 
 pub loop-i-preserved : goal.loop-i-preserved
 loop-i-preserved c = (

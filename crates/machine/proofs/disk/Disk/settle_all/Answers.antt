@@ -6,8 +6,8 @@ use Rattle.machine.proofs.disk.Disk.settle_all.Goals as goal
 
 pub loop-i-preserved : goal.loop-i-preserved
 loop-i-preserved c =
-    let w = c.settle-at.ensures in (
-      settle_more c.args.rewrites (volume c.loop-i.self) (volume c.settle-at.new.self) c.args.outputs.now c.args.hash c.loop-i.i c.loop-i-test.true w.after ∙ c.loop-i.invariant.0,
+    let w = c.settle_at.ensures in (
+      settle_more c.args.rewrites (volume c.loop-i.self) (volume c.settle_at.new.self) c.args.outputs.now c.args.hash c.loop-i.i c.loop-i-test.true w.after ∙ c.loop-i.invariant.0,
       omega (arith, w.clock, c.loop-i.invariant.1),
     )
 

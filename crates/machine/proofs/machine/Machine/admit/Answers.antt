@@ -5,11 +5,11 @@ use Rattle.machine.specs.Machines.{state_of}
 use Rattle.machine.proofs.Laws.{accepted, each_counted, start_lawful, start_state, told_started}
 use Rattle.machine.proofs.machine.Machine.admit.Goals as goal
 
-pub invariant-of-self : goal.invariant-of-self
-invariant-of-self c =
+pub invariant_of-self : goal.invariant_of-self
+invariant_of-self c =
     let self = c.args.self.now in
     let a = accepted self.capacity (state_of self) c.args.edge c.args.question.now c.args.reads.now c.args.outputs.now c.requires in
-    let n = c.push-reserved.ensures.len in
+    let n = c.push_reserved.ensures.len in
     let t = ap (λ (v : Volume). v.clock) c.rise.ensures in (
       self.small,
       (
@@ -19,8 +19,8 @@ invariant-of-self c =
           (
             omega (arith, n, t, a.clock, a.few, self.each, self.small),
             (
-              each_counted _ _ c.push-reserved.new.self.ok.0,
-              (start_lawful self.capacity (volume self.disk) (volume c.rise.new.self) (vec_items self.pending) _ _ c.args.question.now c.rise.ensures c.push-reserved.ensures.items self.lawful self.small a, tt),
+              each_counted _ _ c.push_reserved.new.self.ok.0,
+              (start_lawful self.capacity (volume self.disk) (volume c.rise.new.self) (vec_items self.pending) _ _ c.args.question.now c.rise.ensures c.push_reserved.ensures.items self.lawful self.small a, tt),
             ),
           ),
         ),
@@ -32,7 +32,7 @@ returns c =
     let self = c.args.self.now in
     record {
       answer = ap (λ (v : Volume). v.clock) c.rise.ensures;
-      after = start_state (volume self.disk) (volume c.rise.new.self) (vec_items self.pending) _ _ _ c.rise.ensures c.push-reserved.ensures.items
-          (told_started (vec_items self.disk.files) self.disk.clock (vec_items self.pending) c.args.edge c.new-outputs.result c.hash-of-hash.result c.args.question.now c.args.reads.now c.args.outputs.now c.new-outputs.ensures c.hash-of-hash.ensures);
+      after = start_state (volume self.disk) (volume c.rise.new.self) (vec_items self.pending) _ _ _ c.rise.ensures c.push_reserved.ensures.items
+          (told_started (vec_items self.disk.files) self.disk.clock (vec_items self.pending) c.args.edge c.new-outputs.result c.hash_of-hash.result c.args.question.now c.args.reads.now c.args.outputs.now c.new-outputs.ensures c.hash_of-hash.ensures);
       capacity = search rules;
     }

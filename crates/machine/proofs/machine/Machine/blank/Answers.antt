@@ -4,9 +4,9 @@ use Rattle.machine.specs.Disks.{volume}
 use Rattle.machine.proofs.Laws.{new_lawful, each_counted}
 use Rattle.machine.proofs.machine.Machine.blank.Goals as goal
 
-pub invariant-of-result : goal.invariant-of-result
-invariant-of-result c =
-    let p = c.in-ok-pending.ensures.made in
-    let d = c.in-ok-disk.ensures in
+pub invariant_of-result : goal.invariant_of-result
+invariant_of-result c =
+    let p = c.in_ok-pending.ensures.made in
+    let d = c.in_ok-disk.ensures in
     let t = ap (λ (v : Volume). v.clock) d in
-    (search rules, (search rules, (omega (arith, p.1), (omega (arith, t, p.1), (each_counted _ _ c.in-ok-pending.pending.ok.0, (new_lawful _ (volume c.in-ok-disk.disk) _ d p.0, tt))))))
+    (search rules, (search rules, (omega (arith, p.1), (omega (arith, t, p.1), (each_counted _ _ c.in_ok-pending.pending.ok.0, (new_lawful _ (volume c.in_ok-disk.disk) _ d p.0, tt))))))

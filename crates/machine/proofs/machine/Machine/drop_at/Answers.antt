@@ -5,8 +5,8 @@ use Rattle.machine.proofs.Laws.{each_counted}
 use Rattle.machine.proofs.Finishes.{left_clock, left_lawful, drop_state}
 use Rattle.machine.proofs.machine.Machine.drop_at.Goals as goal
 
-pub invariant-of-self : goal.invariant-of-self
-invariant-of-self c =
+pub invariant_of-self : goal.invariant_of-self
+invariant_of-self c =
     let self = c.args.self.now in
     let ps = vec_items self.pending in
     let lt : c.args.place < length ps = omega (arith, self.pending.ok.0, c.requires) in

@@ -4,8 +4,8 @@ use Rattle.machine.specs.Ends.{broken_by}
 use Rattle.machine.proofs.Finishes.{breaks_none, breaks_some, found_within}
 use Rattle.machine.proofs.machine.Machine.drop_of.Goals as goal
 
-pub drop-at-requires : goal.drop-at-requires
-drop-at-requires c = omega (arith, found_within (state_of c.args.self.now) c.args.edge c.in-Some.place c.in-Some.ensures, c.args.self.now.each)
+pub drop_at-requires : goal.drop_at-requires
+drop_at-requires c = omega (arith, found_within (state_of c.args.self.now) c.args.edge c.in-Some.place c.in-Some.ensures, c.args.self.now.each)
 
 pub returns-in-None : goal.returns-in-None
 returns-in-None c =
@@ -23,7 +23,7 @@ returns-in-Some c =
     let s = state_of self in
     record {
       answer = ap is_some c.in-Some.ensures;
-      after = c.drop-at.ensures.after ∙ ap (broken_by s) c.in-Some.ensures;
-      breaks = λ l. breaks_some (vec_items self.disk.files) self.disk.clock (vec_items self.pending) _ c.args.edge c.in-Some.place c.in-Some.ensures c.drop-at.ensures.after l;
+      after = c.drop_at.ensures.after ∙ ap (broken_by s) c.in-Some.ensures;
+      breaks = λ l. breaks_some (vec_items self.disk.files) self.disk.clock (vec_items self.pending) _ c.args.edge c.in-Some.place c.in-Some.ensures c.drop_at.ensures.after l;
       capacity = search rules;
     }

@@ -7,8 +7,8 @@ use Rattle.machine.proofs.Laws.{each_counted}
 use Rattle.machine.proofs.Finishes.{left_clock, left_lawful, finish_state, finished_ends, ending_told, ends_as}
 use Rattle.machine.proofs.machine.Machine.end_at.Goals as goal
 
-pub invariant-of-self : goal.invariant-of-self
-invariant-of-self c =
+pub invariant_of-self : goal.invariant_of-self
+invariant_of-self c =
     let self = c.args.self.now in
     let ps = vec_items self.pending in
     let lt : c.args.place < length ps = omega (arith, self.pending.ok.0, c.requires) in
@@ -39,7 +39,7 @@ returns c =
     let p = c.remove-command.result in
     let at = c.remove-command.ensures.value in
     let after = finish_state c.args.rewrites (volume self.disk) (volume c.leave.new.self) ps _ c.args.place p lt at c.remove-command.ensures.items c.leave.ensures in
-    let answer = ending_told (vec_items self.disk.files) self.disk.clock ps c.args.place p _ lt at c.is-some.ensures in
+    let answer = ending_told (vec_items self.disk.files) self.disk.clock ps c.args.place p _ lt at c.is_some.ensures in
     record {
       answer = answer;
       after = after;

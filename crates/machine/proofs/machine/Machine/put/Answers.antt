@@ -3,8 +3,8 @@ use Rattle.machine.specs.Disks.{volume}
 use Rattle.machine.proofs.Laws.{write_lawful, write_clock}
 use Rattle.machine.proofs.machine.Machine.put.Goals as goal
 
-pub invariant-of-self : goal.invariant-of-self
-invariant-of-self c =
+pub invariant_of-self : goal.invariant_of-self
+invariant_of-self c =
     let self = c.args.self.now in
     let t = write_clock (volume self.disk) (volume c.place.new.self) c.args.file c.args.mark c.place.ensures in (
       self.small,
