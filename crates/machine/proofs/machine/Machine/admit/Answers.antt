@@ -10,22 +10,15 @@ invariant_of-self c =
     let self = c.args.self.now in
     let a = accepted self.capacity (state_of self) c.args.edge c.args.question.now c.args.reads.now c.args.outputs.now c.requires in
     let n = c.push_reserved.ensures.len in
-    let t = ap (λ (v : Volume). v.clock) c.rise.ensures in (
-      self.small,
-      (
-        search rules,
-        (
-          omega (arith, n, a.few, self.each),
-          (
-            omega (arith, n, t, a.clock, a.few, self.each, self.small),
-            (
-              each_counted _ _ c.push_reserved.new.self.ok.0,
-              (start_lawful self.capacity (volume self.disk) (volume c.rise.new.self) (vec_items self.pending) _ _ c.args.question.now c.rise.ensures c.push_reserved.ensures.items self.lawful self.small a, tt),
-            ),
-          ),
-        ),
-      ),
-    )
+    let t = ap (λ (v : Volume). v.clock) c.rise.ensures in
+    record {
+      small = self.small;
+      room = search rules;
+      few = omega (arith, n, a.few, self.each);
+      clock = omega (arith, n, t, a.clock, a.few, self.each, self.small);
+      each = each_counted _ _ c.push_reserved.new.self.ok.0;
+      lawful = start_lawful self.capacity (volume self.disk) (volume c.rise.new.self) (vec_items self.pending) _ _ c.args.question.now c.rise.ensures c.push_reserved.ensures.items self.lawful self.small a;
+    }
 
 pub returns : goal.returns
 returns c =

@@ -6,7 +6,14 @@ use Rattle.machine.proofs.machine.Machine.blank.Goals as goal
 
 pub invariant_of-result : goal.invariant_of-result
 invariant_of-result c =
-    let p = c.in_ok-pending.ensures.made in
+    let p = c.in_ok-pending.ensures in
     let d = c.in_ok-disk.ensures in
     let t = ap (λ (v : Volume). v.clock) d in
-    (search rules, (search rules, (omega (arith, p.1), (omega (arith, t, p.1), (each_counted _ _ c.in_ok-pending.pending.ok.0, (new_lawful _ (volume c.in_ok-disk.disk) _ d p.0, tt))))))
+    record {
+      small = search rules;
+      room = search rules;
+      few = omega (arith, p.capacity);
+      clock = omega (arith, t, p.capacity);
+      each = each_counted _ _ c.in_ok-pending.pending.ok.0;
+      lawful = new_lawful _ (volume c.in_ok-disk.disk) _ d p.items;
+    }

@@ -12,22 +12,15 @@ invariant_of-self c =
     let lt : c.args.place < length ps = omega (arith, self.pending.ok.0, c.requires) in
     let p = c.remove-command.result in
     let n = c.remove-command.ensures.len in
-    let t = left_clock false (volume self.disk) (volume c.remove_all.new.self) p None (held self.lawful).stamps c.remove_all.ensures in (
-      self.small,
-      (
-        search rules,
-        (
-          omega (arith, n, self.few),
-          (
-            omega (arith, n, t, self.clock),
-            (
-              each_counted _ _ c.remove-command.new.self.ok.0,
-              (left_lawful self.capacity false (volume self.disk) (volume c.remove_all.new.self) ps _ c.args.place p None lt c.remove-command.ensures.items c.remove_all.ensures self.lawful, tt),
-            ),
-          ),
-        ),
-      ),
-    )
+    let t = left_clock false (volume self.disk) (volume c.remove_all.new.self) p None (held self.lawful).stamps c.remove_all.ensures in
+    record {
+      small = self.small;
+      room = search rules;
+      few = omega (arith, n, self.few);
+      clock = omega (arith, n, t, self.clock);
+      each = each_counted _ _ c.remove-command.new.self.ok.0;
+      lawful = left_lawful self.capacity false (volume self.disk) (volume c.remove_all.new.self) ps _ c.args.place p None lt c.remove-command.ensures.items c.remove_all.ensures self.lawful;
+    }
 
 pub returns : goal.returns
 returns c =

@@ -14,22 +14,15 @@ invariant_of-self c =
     let lt : c.args.place < length ps = omega (arith, self.pending.ok.0, c.requires) in
     let p = c.remove-command.result in
     let n = c.remove-command.ensures.len in
-    let t = left_clock c.args.rewrites (volume self.disk) (volume c.leave.new.self) p (told p).outcome (held self.lawful).stamps c.leave.ensures in (
-      self.small,
-      (
-        search rules,
-        (
-          omega (arith, n, self.few),
-          (
-            omega (arith, n, t, self.clock),
-            (
-              each_counted _ _ c.remove-command.new.self.ok.0,
-              (left_lawful self.capacity c.args.rewrites (volume self.disk) (volume c.leave.new.self) ps _ c.args.place p (told p).outcome lt c.remove-command.ensures.items c.leave.ensures self.lawful, tt),
-            ),
-          ),
-        ),
-      ),
-    )
+    let t = left_clock c.args.rewrites (volume self.disk) (volume c.leave.new.self) p (told p).outcome (held self.lawful).stamps c.leave.ensures in
+    record {
+      small = self.small;
+      room = search rules;
+      few = omega (arith, n, self.few);
+      clock = omega (arith, n, t, self.clock);
+      each = each_counted _ _ c.remove-command.new.self.ok.0;
+      lawful = left_lawful self.capacity c.args.rewrites (volume self.disk) (volume c.leave.new.self) ps _ c.args.place p (told p).outcome lt c.remove-command.ensures.items c.leave.ensures self.lawful;
+    }
 
 pub returns : goal.returns
 returns c =
