@@ -5,8 +5,8 @@ use Rattle.replay.specs.Meaning.{rep_of}
 use Rattle.replay.proofs.Table.{length_turns}
 use Rattle.replay.proofs.calls.ReplayHost.poll.Goals as goal
 
-pub end-at-requires : goal.end-at-requires
-end-at-requires c = omega (arith, c.in-Some.ensures.first.within, length_turns (rep_of c.args.self.now))
+pub end_at-requires : goal.end_at-requires
+end_at-requires c = omega (arith, c.in-Some.ensures.first.within, length_turns (rep_of c.args.self.now))
 
 pub returns-in-None : goal.returns-in-None
 returns-in-None c =

@@ -15,15 +15,15 @@ returns c =
     let self = c.args.self.now in
     let k = c.args.place in
     let s = state_of self.machine in
-    let m = state_of c.drop-endings.new.self.machine in
+    let m = state_of c.drop_endings.new.self.machine in
     let t = state_of c.finish.new.self in
-    let same : m ≡ s = ap state_of c.drop-endings.ensures.machine in
+    let same : m ≡ s = ap state_of c.drop_endings.ensures.machine in
     let within : k < length m.pending = subst (λ (z : State). k < length z.pending) (sym same) c.requires in
     let host = end_state c.args.rewrites m k t within c.finish.ensures.after ∙ ap (λ (z : State). finished c.args.rewrites z k) same in
     let ends = subst (λ (z : State). Ends z (ending z k) t) same (finish_ends _ c.finish.result m t k within c.finish.ensures.answer c.finish.ensures.ends) in
     record {
       answer = c.finish.ensures.answer ∙ ending_is m k within ∙ ap (λ (z : State). Some (ending z k)) same;
-      after = end_exact c.args.rewrites (rep_of self) k t _ host c.drop-endings.ensures.left;
+      after = end_exact c.args.rewrites (rep_of self) k t _ host c.drop_endings.ensures.left;
       ends = ends;
       small = ends_small (capacity_of self.machine) s (ending s k) t (machine_lawful self.machine) ends;
     }

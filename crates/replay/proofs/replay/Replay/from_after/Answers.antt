@@ -10,7 +10,7 @@ returns-then-ending-len c =
     let xs = vec_items self.endings in
     record {
       within = omega (arith, c.if-ending-len.true);
-      left = left_drop xs self.from c.turn-at-ending.result.place _ (omega (arith, self.endings.ok.0, c.if-ending-len.true)) (omega arith) ∙ ap (λ (t : Turn). left_after (drop self.from xs) t.place) c.turn-at-ending.ensures;
+      left = left_drop xs self.from c.turn_at-ending.result.place _ (omega (arith, self.endings.ok.0, c.if-ending-len.true)) (omega arith) ∙ ap (λ (t : Turn). left_after (drop self.from xs) t.place) c.turn_at-ending.ensures;
     }
 
 pub returns-else-ending-len : goal.returns-else-ending-len
@@ -19,5 +19,5 @@ returns-else-ending-len c =
     let xs = vec_items self.endings in
     record {
       within = self.within;
-      left = left_all xs self.from c.turn-at-ending.result.place (omega (arith, self.endings.ok.0, c.if-ending-len.false)) ∙ ap (λ (t : Turn). left_after (drop self.from xs) t.place) c.turn-at-ending.ensures;
+      left = left_all xs self.from c.turn_at-ending.result.place (omega (arith, self.endings.ok.0, c.if-ending-len.false)) ∙ ap (λ (t : Turn). left_after (drop self.from xs) t.place) c.turn_at-ending.ensures;
     }

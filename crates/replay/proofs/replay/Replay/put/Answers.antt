@@ -4,5 +4,5 @@ use Rattle.replay.proofs.replay.Replay.put.Goals as goal
 
 pub returns : goal.returns
 returns c =
-    let w = c.outside-write.ensures in
+    let w = c.outside_write.ensures in
     record { answer = w.answer; after = w.after; left = refl; kept = λ off. same_replay c.args.self.now _ _ _ (w.kept off) }

@@ -11,8 +11,8 @@ use Rattle.simulator.proofs.Timed.{paired_length, paired_at}
 use Rattle.simulator.proofs.Exact.{timed_of, end_exact, end_timed}
 use Rattle.simulator.proofs.simulator.Simulator.end_at.Goals as goal
 
-pub invariant-of-self : goal.invariant-of-self
-invariant-of-self c =
+pub invariant_of-self : goal.invariant_of-self
+invariant_of-self c =
     let self = c.args.self.now in
     let s = state_of self.machine in
     let lt : c.args.place < length (vec_items self.dues) = omega (arith, self.dues.ok.0, c.requires) in

@@ -4,7 +4,7 @@ use Rattle.simulator.proofs.simulator.Simulator.put.Goals as goal
 
 pub returns : goal.returns
 returns c =
-    let w = c.outside-write.ensures in
+    let w = c.outside_write.ensures in
     record {
       answer = w.answer;
       after = λ i. record { host = w.after i; tick = c.args.self.now.tick; dues = c.args.self.now.dues.items };
