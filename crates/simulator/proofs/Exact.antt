@@ -17,7 +17,7 @@ use Rattle.simulator.specs.Simulators.{sim_of}
 use Rattle.simulator.proofs.Timed.{Timed, timed_start, timed_gone}
 
 pub timed_of : (s : Simulator) → Timed (sim_of s)
-timed_of s = record { paired = s.paired; now = s.now; later = s.later }
+timed_of s = record { paired = s.paired; now = s.current; later = s.later }
 
 -- an accepted start
 pub start_exact : (s : Sim) (h : State) (ds : List Due) (c : Command) (o : Option Refusal) (bytes t : ℕ) → o ≡ None → h ≡ started None s.host c → ds ≡ s.dues ++ (record { tick = t; edge = c.edge } ∷ []) → t ≡ s.tick + bytes → record { host = h; tick = s.tick; dues = ds } ≡ sim_started o s c bytes

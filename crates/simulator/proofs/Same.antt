@@ -14,7 +14,7 @@ LaterDues s m = (k : ℕ) → k < length (vec_items s.dues) → (get_or (vec_ite
 pub same_simulator : (s : Simulator) (m : Machine) (a : capacity_of m ≡ 16) (b : 16 ≤ vec_capacity s.dues)
     (c : map due_edge (vec_items s.dues) ≡ pending_edges (state_of m)) (d : length (state_of m).pending ≡ vec_len s.dues)
     (e : s.tick ≤ 1024 * (state_of m).clock) (f : LaterDues s m) → m ≡ s.machine →
-    ◌≡◌ {A = Simulator} (record { machine = m; tick = s.tick; dues = s.dues; capacity = a; room = b; paired = c; each = d; now = e; later = f }) s
+    ◌≡◌ {A = Simulator} (record { machine = m; tick = s.tick; dues = s.dues; capacity = a; room = b; paired = c; each = d; current = e; later = f }) s
 same_simulator s m a b c d e f p = λ i. record {
   machine = p i;
   tick = s.tick;
@@ -23,6 +23,6 @@ same_simulator s m a b c d e f p = λ i. record {
   room = is_prop→PathP (λ j. 16 ≤ vec_capacity s.dues) (λ j. hlevel props) b s.room i;
   paired = is_prop→PathP (λ j. map due_edge (vec_items s.dues) ≡ pending_edges (state_of (p j))) (λ j. hlevel props) c s.paired i;
   each = is_prop→PathP (λ j. length (state_of (p j)).pending ≡ vec_len s.dues) (λ j. hlevel props) d s.each i;
-  now = is_prop→PathP (λ j. s.tick ≤ 1024 * (state_of (p j)).clock) (λ j. hlevel props) e s.now i;
+  current = is_prop→PathP (λ j. s.tick ≤ 1024 * (state_of (p j)).clock) (λ j. hlevel props) e s.current i;
   later = is_prop→PathP (λ j. LaterDues s (p j)) (λ j. hlevel props) f s.later i;
 }

@@ -19,6 +19,6 @@ pub struct Simulator {
     ghost room: { 16 ≤ vec_capacity dues },
     ghost paired: { map due_edge dues.items ≡ pending_edges (state_of machine) },
     ghost each: { length (state_of machine).pending ≡ vec_len dues },
-    ghost now: { tick ≤ 1024 * (state_of machine).clock },
+    ghost current: { tick ≤ 1024 * (state_of machine).clock },
     ghost later: { (k : ℕ) → k < length dues.items → (slice_index_or dues.items k no_due).tick ≤ 1024 * (state_of machine).clock },
 }

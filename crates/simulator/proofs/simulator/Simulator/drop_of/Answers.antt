@@ -18,8 +18,15 @@ invariant_of-self c =
     let found = found_within s c.args.edge c.in-Some.place c.in-Some.ensures in
     let lt : c.in-Some.place < length (vec_items self.dues) = omega (arith, found, self.each, self.dues.ok.0) in
     let host = drop_state s c.args.edge c.in-Some.place t c.if-edge-gt-LAST_EDGE.false c.in-Some.ensures c.break_off.ensures.after in
-    let timed = timed_gone (sim_of self) c.in-Some.place t self.tick (vec_items c.remove.new.self) lt (ap (λ (z : State). z.pending) host) c.remove.ensures.items (omega (arith, ap (λ (z : State). z.clock) host)) self.now (timed_of self) in
-    (c.break_off.ensures.capacity ∙ self.capacity, (search rules, (timed.paired, (paired_length _ timed ∙ sym c.remove.new.self.ok.0, (timed.now, (timed.later, tt))))))
+    let timed = timed_gone (sim_of self) c.in-Some.place t self.tick (vec_items c.remove.new.self) lt (ap (λ (z : State). z.pending) host) c.remove.ensures.items (omega (arith, ap (λ (z : State). z.clock) host)) self.current (timed_of self) in
+    record {
+      capacity = c.break_off.ensures.capacity ∙ self.capacity;
+      room = search rules;
+      paired = timed.paired;
+      each = paired_length _ timed ∙ sym c.remove.new.self.ok.0;
+      current = timed.now;
+      later = timed.later;
+    }
 
 pub returns-in-None : goal.returns-in-None
 returns-in-None c =

@@ -21,7 +21,14 @@ invariant_of-self c =
     let ends = finish_ends _ c.finish.result s (state_of c.finish.new.self) c.args.place within c.finish.ensures.answer c.finish.ensures.ends in
     let up = (later_poll s (Some (ending s c.args.place)) (state_of c.finish.new.self) ends).clock in
     let timed = end_timed (sim_of self) c.args.place (state_of c.finish.new.self) c.remove-due.result.tick c.remove-due.result (vec_items c.remove-due.new.self) lt c.remove-due.ensures.value refl (ap (λ (z : State). z.pending) host) c.remove-due.ensures.items up (timed_of self) in
-    (c.finish.ensures.capacity ∙ self.capacity, (search rules, (timed.paired, (paired_length _ timed ∙ sym c.remove-due.new.self.ok.0, (timed.now, (timed.later, tt))))))
+    record {
+      capacity = c.finish.ensures.capacity ∙ self.capacity;
+      room = search rules;
+      paired = timed.paired;
+      each = paired_length _ timed ∙ sym c.remove-due.new.self.ok.0;
+      current = timed.now;
+      later = timed.later;
+    }
 
 pub returns : goal.returns
 returns c =

@@ -21,7 +21,7 @@ overflow_add-tick c =
     let none = answered (start_refusal (capacity_of self.machine) s c.args.edge c.args.question.now c.args.reads.now c.args.outputs.now) s c.in-Ok.clock c.in-Ok.ensures.answer in
     let a = accepted (capacity_of self.machine) s c.args.edge c.args.question.now c.args.reads.now c.args.outputs.now none in
     let n : c.command_len.result ≤ 1024 = omega (arith, c.command_len.ensures, text_short c.args.question.now, a.question) in
-    let t : self.tick ≤ 4200000000000 = omega (arith, self.now, a.clock) in
+    let t : self.tick ≤ 4200000000000 = omega (arith, self.current, a.clock) in
     search rules
 
 pub invariant_of-self : goal.invariant_of-self
@@ -35,7 +35,14 @@ invariant_of-self c =
     let host = c.in-Ok.ensures.after ∙ ap (λ (r : Option Refusal). started r s command) none in
     let bytes : length (command_text c.args.question.now) ≤ 1024 = omega (arith, text_short c.args.question.now, a.question) in
     let timed = start_timed (sim_of self) (state_of c.start.new.self) (vec_items c.push_reserved.new.self) command (length (command_text c.args.question.now)) _ host c.push_reserved.ensures.items (ap (λ (n : ℕ). self.tick + n) c.command_len.ensures) bytes (timed_of self) in
-    (c.in-Ok.ensures.capacity ∙ self.capacity, (search rules, (timed.paired, (paired_length _ timed ∙ sym c.push_reserved.new.self.ok.0, (timed.now, (timed.later, tt))))))
+    record {
+      capacity = c.in-Ok.ensures.capacity ∙ self.capacity;
+      room = search rules;
+      paired = timed.paired;
+      each = paired_length _ timed ∙ sym c.push_reserved.new.self.ok.0;
+      current = timed.now;
+      later = timed.later;
+    }
 
 pub returns-in-Err : goal.returns-in-Err
 returns-in-Err c =
