@@ -10,33 +10,33 @@ use Rattle.parts.proofs.blocks.block.Goals as goal
 pub loop-all-init : goal.loop-all-init
 loop-all-init c = simp c.new-all.ensures.items (begun (block_turn c.args.kind) _ _ [])
 
-pub returns-in-err-block-line : goal.returns-in-err-block-line
-returns-in-err-block-line c =
-    let p = err_from_is_err_and c.from-residual.result c.from-residual.ensures.1 in
-    rw (p.1, p.2) (fail_here (block_turn c.args.kind) (block_turn_moves c.args.kind) c.loop-all.c.at c.loop-all.c.rest.now _ _ _ c.loop-all.invariant c.in-err-block-line.ensures)
+pub returns-in_err-block_line : goal.returns-in_err-block_line
+returns-in_err-block_line c =
+    let p = err_from_is_err_and c.from_residual.result c.from_residual.ensures.1 in
+    rw (p.1, p.2) (fail_here (block_turn c.args.kind) (block_turn_moves c.args.kind) c.loop-all.c.at c.loop-all.c.rest.now _ _ _ c.loop-all.invariant c.in_err-block_line.ensures)
 
 pub returns-in-Last : goal.returns-in-Last
 returns-in-Last c =
     end_here (block_turn c.args.kind) (block_turn_moves c.args.kind) c.loop-all.c.at c.loop-all.c.rest.now _ _ _ _ c.loop-all.invariant
-    (known turn_in _ Last _ _ _ c.in-Last.is c.in-ok-block-line.ensures)
+    (known turn_in _ Last _ _ _ c.in-Last.is c.in_ok-block_line.ensures)
 
 pub loop-all-smaller-in-Skip : goal.loop-all-smaller-in-Skip
 loop-all-smaller-in-Skip c =
     shorter (block_turn c.args.kind) (block_turn_moves c.args.kind) c.loop-all.c.at c.loop-all.c.rest.now _ _ _
-    (known turn_in _ Skip _ _ _ c.in-Skip.is c.in-ok-block-line.ensures)
+    (known turn_in _ Skip _ _ _ c.in-Skip.is c.in_ok-block_line.ensures)
 
 pub loop-all-preserved-in-Skip : goal.loop-all-preserved-in-Skip
 loop-all-preserved-in-Skip c =
     go_on (block_turn c.args.kind) (block_turn_moves c.args.kind) c.loop-all.c.at c.loop-all.c.rest.now _ _ _ _ _ _ c.loop-all.invariant
-    (known turn_in _ Skip _ _ _ c.in-Skip.is c.in-ok-block-line.ensures) (sym (append-nil _))
+    (known turn_in _ Skip _ _ _ c.in-Skip.is c.in_ok-block_line.ensures) (sym (append-nil _))
 
 pub loop-all-smaller : goal.loop-all-smaller
 loop-all-smaller c =
     shorter (block_turn c.args.kind) (block_turn_moves c.args.kind) c.loop-all.c.at c.loop-all.c.rest.now _ _ _
-    (known turn_in _ (Sets c.in-Sets.b) _ _ _ c.in-Sets.is c.in-ok-block-line.ensures)
+    (known turn_in _ (Sets c.in-Sets.b) _ _ _ c.in-Sets.is c.in_ok-block_line.ensures)
 
 pub loop-all-preserved : goal.loop-all-preserved
 loop-all-preserved c =
     go_on (block_turn c.args.kind) (block_turn_moves c.args.kind) c.loop-all.c.at c.loop-all.c.rest.now _ _ _ _ _ _ c.loop-all.invariant
-    (known turn_in _ (Sets c.in-Sets.b) _ _ _ c.in-Sets.is c.in-ok-block-line.ensures)
+    (known turn_in _ (Sets c.in-Sets.b) _ _ _ c.in-Sets.is c.in_ok-block_line.ensures)
     (ap (map entry_of) c.in-ok-push.ensures.items ∙ map_push entry_of c.loop-all.all.items c.in-Sets.b)
