@@ -39,4 +39,4 @@ pub loop-all-preserved : goal.loop-all-preserved
 loop-all-preserved c =
     go_on (block_turn c.args.kind) (block_turn_moves c.args.kind) c.loop-all.c.at c.loop-all.c.rest.now _ _ _ _ _ _ c.loop-all.invariant
     (known turn_in _ (Sets c.in-Sets.b) _ _ _ c.in-Sets.is c.in_ok-block_line.ensures)
-    (ap (map entry_of) c.in-ok-push.ensures.items ∙ map_push entry_of c.loop-all.all.items c.in-Sets.b)
+    (ap (map entry_of) c.in_ok-push-in-Sets.ensures.items ∙ map_push entry_of c.loop-all.all.items c.in-Sets.b)

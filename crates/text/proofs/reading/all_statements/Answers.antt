@@ -11,22 +11,22 @@ use Rattle.text.proofs.reading.all_statements.Goals as goal
 pub loop-all-init : goal.loop-all-init
 loop-all-init c = simp c.new-all.ensures.items (begun (each next) _ _ [])
 
-pub returns-in-err-x : goal.returns-in-err-x
-returns-in-err-x c =
-    let p = err_from_is_err_and c.from-residual.result c.from-residual.ensures.1 in
-    let h = refused_here c.in-err-x.field-0.0 c.loop-all.c.at c.loop-all.c.rest.now _ _ c.loop-all.invariant c.in-err-x.ensures in
+pub returns-in_err-x : goal.returns-in_err-x
+returns-in_err-x c =
+    let p = err_from_is_err_and c.from_residual.result c.from_residual.ensures.1 in
+    let h = refused_here c.in_err-x.field-0.0 c.loop-all.c.at c.loop-all.c.rest.now _ _ c.loop-all.invariant c.in_err-x.ensures in
     rw (p.1, p.2) h
 
 pub loop-all-smaller : goal.loop-all-smaller
-loop-all-smaller c = shorter (each next) (each_moves next next_statement_moves) c.loop-all.c.at c.loop-all.c.rest.now _ _ _ (some_more next next_statement_moves stated_of c.loop-all.c.at c.loop-all.c.rest.now _ _ _ c.in-Some.x c.in-Some.is c.in-ok-x.ensures)
+loop-all-smaller c = shorter (each next) (each_moves next next_statement_moves) c.loop-all.c.at c.loop-all.c.rest.now _ _ _ (some_more next next_statement_moves stated_of c.loop-all.c.at c.loop-all.c.rest.now _ _ _ c.in-Some.x c.in-Some.is c.in_ok-x.ensures)
 
 pub loop-all-preserved : goal.loop-all-preserved
 loop-all-preserved c =
     go_on (each next) (each_moves next next_statement_moves) c.loop-all.c.at c.loop-all.c.rest.now _ _ _ _ _ _ c.loop-all.invariant
-    (some_more next next_statement_moves stated_of c.loop-all.c.at c.loop-all.c.rest.now _ _ _ c.in-Some.x c.in-Some.is c.in-ok-x.ensures)
-    (ap (map stated_of) c.in-ok-push.ensures.items ∙ map_push stated_of c.loop-all.all.items c.in-Some.x)
+    (some_more next next_statement_moves stated_of c.loop-all.c.at c.loop-all.c.rest.now _ _ _ c.in-Some.x c.in-Some.is c.in_ok-x.ensures)
+    (ap (map stated_of) c.in_ok-push.ensures.items ∙ map_push stated_of c.loop-all.all.items c.in-Some.x)
 
 pub returns : goal.returns
 returns c =
     end_here (each next) (each_moves next next_statement_moves) c.loop-all.c.at c.loop-all.c.rest.now _ _ _ _ c.loop-all.invariant
-    (none_stop next next_statement_moves stated_of c.loop-all.c.at c.loop-all.c.rest.now _ _ _ c.in-default.is c.in-ok-x.ensures)
+    (none_stop next next_statement_moves stated_of c.loop-all.c.at c.loop-all.c.rest.now _ _ _ c.in_default.is c.in_ok-x.ensures)
