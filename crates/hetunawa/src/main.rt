@@ -13,6 +13,7 @@ use replay::Replay;
 use simulator::Simulator;
 use std::fmt::Display;
 use std::io::{BufWriter, Write};
+use std::process::ExitCode;
 use std::{env, fs, io};
 use text::Statement;
 
@@ -22,22 +23,30 @@ const MALFORMED: u32 = 13;
 // Why the program fails has been told when this is returned.
 struct Failed;
 
-fn main(rt: HostRuntime) -> Result<(), Failed> {
-    let words = match words_given(&rt) {
+fn main(rt: HostRuntime) -> ExitCode {
+    match obey(&rt) {
+        Ok(()) => ExitCode::SUCCESS,
+        Err(Failed) => ExitCode::FAILURE,
+    }
+}
+
+// Does what the words of the call say.
+fn obey(rt: &HostRuntime) -> Result<(), Failed> {
+    let words = match words_given(rt) {
         Ok(words) => words,
-        Err(error) => return Err(complain(&rt, "the words of the call", error)),
+        Err(error) => return Err(complain(rt, "the words of the call", error)),
     };
     match words.as_slice() {
-        [] => explain(&rt),
-        [word] if word.as_str() == "--help" => explain(&rt),
-        [word, script] if word.as_str() == "host" => over_simulator(&rt, script.as_str()),
+        [] => explain(rt),
+        [word] if word.as_str() == "--help" => explain(rt),
+        [word, script] if word.as_str() == "host" => over_simulator(rt, script.as_str()),
         [word, script, recording] if word.as_str() == "host" => over_replay(
-            &rt,
+            rt,
             script.as_str(),
             recording.as_str(),
         ),
-        [word, manifest] if word.as_str() == "outline" => show_outline(&rt, manifest.as_str()),
-        [word, ..] => Err(misused(&rt, word.as_str())),
+        [word, manifest] if word.as_str() == "outline" => show_outline(rt, manifest.as_str()),
+        [word, ..] => Err(misused(rt, word.as_str())),
     }
 }
 
@@ -136,7 +145,9 @@ fn read(rt: &HostRuntime, path: &str) -> Result<Vec<u8>, Failed> {
 
 // Does the calls of a script on a host, and prints the answers.
 fn play<B: Host>(rt: &HostRuntime, host: &mut B, script: &str, calls: &[u8]) -> Result<(), Failed> {
-    let mut out = BufWriter::new(rt.stdout());
+    let Ok(mut out) = BufWriter::new(rt.alloc(), rt.stdout()) else {
+        return Err(complain(rt, script, Fault::Memory));
+    };
     match hostscript::run(rt.alloc(), host, calls, &mut out) {
         Ok(()) => Ok(()),
         Err(fault) => Err(complain(rt, script, fault)),

@@ -1,5 +1,5 @@
 -- One put after another.
-use Rattle.std.proofs.Common.{◌≡◌, ℕ, ◌+◌, ◌<◌, ◌≤◌, List, [], ◌∷◌, ◌++◌, map, length, get_or, drop, Ok, Err, vec_items, Result, Vec, sym, refl, ap, ◌∙◌, append_assoc, append-nil, arith, Bor, MutBor}
+use Rattle.std.proofs.Common.{◌≡◌, ℕ, ◌+◌, ◌<◌, ◌≤◌, List, [], ◌∷◌, ◌++◌, map, length, get_or, drop, Ok, Err, vec_items, Result, Vec, sym, refl, ap, ◌∙◌, append_assoc, append-nil, arith, Bor}
 use Rattle.std.proofs.lemmas.List.{drop_more, drop_all, map_push}
 use Rattle.std.specs.declared.alloc.AllocError.{AllocError}
 use Rattle.std.specs.declared.alloc.Global.{Global}
@@ -53,7 +53,7 @@ pub marked_some : (r : Result (Unit {0}) AllocError) (x z : Vec ℕ Global) (m :
 marked_some r x z m [] e h = absurd (omega arith)
 marked_some r x z m (p ∷ ps) e h = h
 
-pub named_more : (bs : List Binding) (i : ℕ) (d : Binding) (ns more : List (MutBor (List ℕ))) (z : List (List ℕ)) → i < length bs → more ≡ ns ++ (get_or bs i d).name ∷ [] → map (λ x. x.now) ns ++ names (map entry_of (drop i bs)) ≡ z → map (λ x. x.now) more ++ names (map entry_of (drop (i + 1) bs)) ≡ z
+pub named_more : (bs : List Binding) (i : ℕ) (d : Binding) (ns more : List (Bor (List ℕ))) (z : List (List ℕ)) → i < length bs → more ≡ ns ++ (get_or bs i d).name ∷ [] → map (λ x. x.now) ns ++ names (map entry_of (drop i bs)) ≡ z → map (λ x. x.now) more ++ names (map entry_of (drop (i + 1) bs)) ≡ z
 named_more bs i d ns more z l h k =
     let b = get_or bs i d in
     ap (λ x. map (λ x. x.now) x ++ names (map entry_of (drop (i + 1) bs))) h

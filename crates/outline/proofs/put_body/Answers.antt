@@ -4,8 +4,8 @@ use Rattle.outline.specs.Outline.{Puts, said_shown}
 use Rattle.outline.proofs.Puts.{then_puts}
 use Rattle.outline.proofs.put_body.Goals as goal
 
-pub returns-in-ok-put : goal.returns-in-ok-put
-returns-in-ok-put c =
-    subst (λ x. Puts c.put-part.result c.args.out.now c.put-part.new.out (said_shown (said_of x))) (sym c.in-Variable.is)
-    (then_puts c.put-part.result c.args.out.now c.put.new.out c.put-part.new.out _ _ c.in-ok-put.ensures
-    c.put-part.ensures)
+pub returns-in_ok-put-in-Variable : goal.returns-in_ok-put-in-Variable
+returns-in_ok-put-in-Variable c =
+    subst (λ x. Puts c.put_part.result c.args.out.now c.put_part.new.out (said_shown (said_of x))) (sym c.in-Variable.is)
+    (then_puts c.put_part.result c.args.out.now c.put.new.out c.put_part.new.out _ _ c.in_ok-put-in-Variable.ensures
+    c.put_part.ensures)

@@ -8,8 +8,8 @@ pub returns : goal.returns
 returns c =
     subst (λ n. Puts c.put-3.result c.args.out.now c.put-3.new.out (codes "refused " ++ (decimal n ++ (codes " at " ++ (decimal (numbered c.args.f).1 ++ codes "\n"))))) c.number.ensures
     (subst (λ p. Puts c.put-3.result c.args.out.now c.put-3.new.out (codes "refused " ++ (decimal c.number.result ++ (codes " at " ++ (decimal p ++ codes "\n"))))) c.place.ensures
-    (then_puts c.put-3.result c.args.out.now c.put.new.out c.put-3.new.out _ _ c.in-ok-put.ensures
-    (then_puts c.put-3.result c.put.new.out c.put-number.new.out c.put-3.new.out _ _ c.in-ok-put-number.ensures
-    (then_puts c.put-3.result c.put-number.new.out c.put-2.new.out c.put-3.new.out _ _ c.in-ok-put-2.ensures
-    (then_puts c.put-3.result c.put-2.new.out c.put-number-2.new.out c.put-3.new.out _ _ c.in-ok-put-number-2.ensures
+    (then_puts c.put-3.result c.args.out.now c.put.new.out c.put-3.new.out _ _ c.in_ok-put.ensures
+    (then_puts c.put-3.result c.put.new.out c.put_number.new.out c.put-3.new.out _ _ c.in_ok-put_number.ensures
+    (then_puts c.put-3.result c.put_number.new.out c.put-2.new.out c.put-3.new.out _ _ c.in_ok-put-2.ensures
+    (then_puts c.put-3.result c.put-2.new.out c.put_number-2.new.out c.put-3.new.out _ _ c.in_ok-put_number-2.ensures
     c.put-3.ensures)))))

@@ -3,6 +3,6 @@ use Rattle.outline.proofs.put_head.Goals as goal
 
 pub returns : goal.returns
 returns c =
-    then_puts c.put-block.result c.args.out.now c.put.new.out c.put-block.new.out _ _ c.in-ok-put.ensures
-    (then_puts c.put-block.result c.put.new.out c.put-part.new.out c.put-block.new.out _ _ c.in-ok-put-part.ensures
-    c.put-block.ensures)
+    then_puts c.put_block.result c.args.out.now c.put.new.out c.put_block.new.out _ _ c.in_ok-put.ensures
+    (then_puts c.put_block.result c.put.new.out c.put_part.new.out c.put_block.new.out _ _ c.in_ok-put_part.ensures
+    c.put_block.ensures)

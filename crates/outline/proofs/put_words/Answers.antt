@@ -7,8 +7,8 @@ pub loop-p-preserved : goal.loop-p-preserved
 loop-p-preserved c =
     let d : Bor (List ℕ) = record { ref_ptr = (0, 0); now = [] } in
     let w : List ℕ = shown (get_or c.args.parts.now c.loop-p.p-index d).now in
-    turn_puts (vec_items c.loop-p.out) (vec_items c.put-part.new.out) ((32 ∷ []) ++ w) _ _ _
-    (two_puts (vec_items c.loop-p.out) (vec_items c.put.new.out) (vec_items c.put-part.new.out) (32 ∷ []) w c.in-ok-put.ensures c.in-ok-put-part.ensures)
+    turn_puts (vec_items c.loop-p.out) (vec_items c.put_part.new.out) ((32 ∷ []) ++ w) _ _ _
+    (two_puts (vec_items c.loop-p.out) (vec_items c.put.new.out) (vec_items c.put_part.new.out) (32 ∷ []) w c.in_ok-put.ensures c.in_ok-put_part.ensures)
     (words_more c.args.parts.now c.loop-p.p-index d (omega arith)) c.loop-p.invariant
 
 pub returns : goal.returns
