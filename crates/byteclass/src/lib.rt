@@ -1,4 +1,6 @@
 // Bytes and words of a manifest: the class of each byte, and the words that have a meaning of their own.
+#![tactic(auto)]
+
 pub mod table;
 pub mod words;
 

@@ -1,6 +1,6 @@
 -- How far a reading goes: places and bytes go together, and a reading passes at least so many bytes.
-use Rattle.std.proofs.Common.{◌≡◌, ℕ, zero, suc, ◌+◌, ◌<◌, ◌≤◌, Bool, true, false, cond, ◌&&◌, ◌||◌, eqb, List, [], ◌∷◌, length, drop, Some, None, Option, arith, length-drop}
-use Rattle.std.proofs.lemmas.Bool.{cond_both, eqb-true}
+use Rattle.std.proofs.Common.{◌≡◌, ℕ, zero, suc, ◌+◌, ◌≤◌, Bool, true, false, cond, ◌&&◌, ◌||◌, eqb, List, [], ◌∷◌, length, Some, None, Option, arith, length-drop}
+use Rattle.std.proofs.lemmas.Bool.{cond_both}
 use Rattle.cursor.specs.Scan.{Out, ok, bad, and_then, spot, name_len, name_of, name, spaces, gap, comment, byte, scan, value, escaped, stops, walk, path, any_path, next_path, needed, first_path, bar, pair, indented, flush, lead}
 use Rattle.cursor.specs.declared.place.Fault.{Fault}
 use Rattle.cursor.specs.declared.place.Fault.TheVariants.{Dollar}

@@ -5,7 +5,7 @@ use Rattle.std.proofs.lemmas.List.{drop_more, drop_all, take_rest}
 use Rattle.std.proofs.lemmas.Bool.{eq-eqb, ne_eqb, eqb-true, and_parts, cond_both, false≢true}
 use Rattle.std.proofs.lemmas.Bool.Decides.{nat_tests}
 use Rattle.byteclass.specs.Class.{name_byte}
-use Rattle.cursor.specs.Scan.{Out, ok, bad, spot, name_len, name, spaces, gap_width, gap, comment, scan, walk, wraps, stops, braced, escaped}
+use Rattle.cursor.specs.Scan.{ok, bad, spot, name_len, name, spaces, gap_width, gap, comment, scan, walk, wraps, stops, braced, escaped}
 use Rattle.cursor.specs.declared.place.Opens.{Opens}
 use Rattle.cursor.specs.declared.place.Fault.TheVariants.{Syntax, Dollar}
 

@@ -1,5 +1,5 @@
 -- Which call the words of a line are, but for a start. Assumes nothing.
-use Rattle.std.specs.Prelude.{◌≡◌, ℕ, List, [], ◌∷◌, Some, None, vec_items, Option}
+use Rattle.std.specs.Prelude.{ℕ, List, [], ◌∷◌, Some, None, vec_items, Option}
 use Rattle.std.specs.Option.{option_map}
 use Rattle.hetunawa.specs.declared.call.Call.{Call}
 use Rattle.hetunawa.specs.declared.call.Call.TheVariants as calls

@@ -1,4 +1,6 @@
 // The program hetunawa: its first word says what to do.
+#![tactic(auto)]
+
 mod answer;
 mod call;
 mod help;

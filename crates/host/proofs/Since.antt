@@ -1,12 +1,12 @@
 -- What every call leaves of the files: as they were, absent, or stamped above the clock of before.
-use Rattle.std.proofs.Common.{◌≡◌, ℕ, zero, suc, ◌+◌, ◌<◌, ◌≤◌, Bool, true, false, ◌⊎◌, List, [], ◌∷◌, length, get_or, set, Some, None, Ok, Err, Option, Result, sym, refl, ap, ◌∙◌, subst, inl, inr, add-one, arith}
+use Rattle.std.proofs.Common.{◌≡◌, ℕ, zero, suc, ◌+◌, ◌≤◌, Bool, true, false, List, [], ◌∷◌, length, get_or, set, Some, None, Ok, Err, Option, Result, sym, ap, ◌∙◌, subst, inl, inr, add-one, arith}
 use Rattle.std.proofs.lemmas.List.{get_or-set_same, get_or-set_other, set_past}
 use Rattle.std.proofs.lemmas.Bool.{cases_eq, cases_lt}
 use Rattle.host.specs.declared.Stamped.{Stamped}
 use Rattle.host.specs.declared.Ended.{Ended}
 use Rattle.host.specs.declared.Refusal.{Refusal}
 use Rattle.host.specs.State.{Files, State, Command, at, no_command}
-use Rattle.host.specs.Calls.{Makes, Wrote, Ruined, AllWrote, AllRuined, Leaves, Polls, BreaksOff, started, written, stamped, placed, command_of}
+use Rattle.host.specs.Calls.{Makes, Wrote, Ruined, AllWrote, AllRuined, Leaves, Polls, BreaksOff, started, written, placed, command_of}
 use Rattle.host.specs.Refusals.{start_refusal, write_refusal}
 use Rattle.host.specs.Steps.{Call, start, poll, break_off, write, Step, Steps, Since, Later, BreaksBelow}
 

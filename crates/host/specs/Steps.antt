@@ -1,9 +1,9 @@
 -- What every step of every host keeps: a file not written since is as it was. Assumes nothing.
-use Rattle.std.specs.Prelude.{◌≡◌, ℕ, zero, suc, ◌<◌, ◌≤◌, Bool, ◌⊎◌, List, [], ◌∷◌, length, get_or, Some, None, Option, Result}
+use Rattle.std.specs.Prelude.{◌≡◌, ℕ, zero, suc, ◌<◌, ◌≤◌, Bool, ◌⊎◌, List, [], ◌∷◌, Some, None, Option, Result}
 use Rattle.host.specs.declared.Stamped.{Stamped}
 use Rattle.host.specs.declared.Ended.{Ended}
 use Rattle.host.specs.declared.Refusal.{Refusal}
-use Rattle.host.specs.State.{State, Files, Command, at}
+use Rattle.host.specs.State.{State, at}
 use Rattle.host.specs.Calls.{Makes, after_start, after_write, Polls, BreaksOff}
 
 -- one call on a host of this capacity, with what it was given and what it answered

@@ -1,4 +1,6 @@
 // A host: files that can be told, a clock, commands that are started and come to an end in the host's own order.
+#![tactic(auto)]
+
 ghost use Rattle.std.specs.Prelude.{◌≡◌, ℕ, ◌+◌, ◌*◌, ◌<◌, ◌≤◌, Bool, true, false, List, [], ◌∷◌, length, is_ok, Some, Option, MatchOption};
 ghost use Rattle.host.specs.declared.Stamped.{Stamped};
 ghost use Rattle.host.specs.State.{State, Files, Lawful};

@@ -1,5 +1,5 @@
 -- What the ends of commands leave is lawful, and is what a host may do.
-use Rattle.std.proofs.Common.{◌≡◌, ℕ, ◌+◌, ◌-◌, ◌<◌, ◌≤◌, Bool, true, false, cond, not, ◌&&◌, eqb, ltb, ◌⊎◌, List, [], ◌∷◌, ◌++◌, map, length, get_or, set, is_some, Some, None, Ok, Option, sym, refl, ap, ◌∙◌, subst, inl, inr, arith, MatchOption}
+use Rattle.std.proofs.Common.{◌≡◌, ℕ, ◌+◌, ◌-◌, ◌<◌, ◌≤◌, Bool, true, false, not, ◌&&◌, ltb, List, [], ◌∷◌, map, length, get_or, set, is_some, Some, None, Ok, Option, sym, refl, ap, ◌∙◌, subst, inl, inr, arith, MatchOption}
 use Rattle.std.proofs.lemmas.List.{length-set, length-map, get_or-map}
 use Rattle.std.proofs.lemmas.Bool.{cases_Bool, cond-true, cond-false, and_parts, eqb-true, lt-ltb}
 use Rattle.std.specs.List.{remove}
@@ -7,7 +7,7 @@ use Rattle.std.specs.Option.{option_map}
 use Rattle.host.specs.declared.Stamped.{Stamped}
 use Rattle.host.specs.declared.Ended.{Ended}
 use Rattle.host.specs.State.{Files, State, Command, Lawful, Stamps, at, no_command}
-use Rattle.host.specs.Calls.{stamped, Holds, Wrote, AllWrote, AllRuined, Leaves, Ends, Breaks, BreaksOff}
+use Rattle.host.specs.Calls.{Holds, Wrote, AllWrote, AllRuined, Leaves, Ends, Breaks, BreaksOff}
 use Rattle.host.proofs.Pends.{map_removed}
 use Rattle.host.proofs.Keeps.{held, stamps_set, stamps_gone, lawful_cut}
 use Rattle.machine.specs.declared.command.Pending.{Pending}

@@ -1,5 +1,5 @@
 -- The machine's invariant through its calls.
-use Rattle.std.proofs.Common.{◌≡◌, ℕ, ◌+◌, ◌<◌, ◌≤◌, Bool, true, false, cond, ltb, leb, List, [], ◌∷◌, ◌++◌, map, length, get_or, set, replicate, Some, None, Option, sym, refl, ap, ◌∙◌, subst, arith}
+use Rattle.std.proofs.Common.{◌≡◌, ℕ, ◌+◌, ◌<◌, ◌≤◌, Bool, true, false, cond, ltb, leb, List, [], ◌∷◌, ◌++◌, map, length, set, replicate, Some, None, Option, sym, refl, ap, ◌∙◌, subst, arith}
 use Rattle.std.proofs.lemmas.List.{length-map, map_push}
 use Rattle.std.proofs.lemmas.Bool.{or_parts, ltb-false, leb-false}
 use Rattle.std.specs.Option.{option_map}
@@ -7,7 +7,7 @@ use Rattle.host.specs.declared.Refusal.{Refusal}
 use Rattle.host.specs.declared.Refusal.TheVariants.{Busy, ClockSpent, BadCall}
 use Rattle.host.specs.Refusals.{bad_start, clock_spent, start_refusal}
 use Rattle.host.specs.State.{Files, State, Command, Lawful, pends}
-use Rattle.host.specs.Calls.{written, placed, started, command_of, outcome_of, marks}
+use Rattle.host.specs.Calls.{placed, started, command_of, outcome_of, marks}
 use Rattle.host.proofs.Keeps.{held, lawful_blank, lawful_write, lawful_start}
 use Rattle.machine.specs.declared.command.Pending.{Pending}
 use Rattle.machine.specs.declared.command.Outputs.{Outputs}
@@ -18,7 +18,7 @@ use Rattle.machine.specs.Outcomes.{hash_of}
 use Rattle.machine.proofs.Outcomes.{outcome_kept}
 use Rattle.machine.proofs.Settles.{length_named}
 use Rattle.machine.specs.declared.machine.Machine.{Machine}
-use Rattle.machine.specs.Machines.{fresh, state_of, capacity_of}
+use Rattle.machine.specs.Machines.{state_of, capacity_of}
 
 -- the machine with another volume
 abbrev pub state_on : Volume → List Pending → State

@@ -1,5 +1,5 @@
 -- Facts about lists of file numbers.
-use Rattle.std.proofs.Common.{◌≡◌, ℕ, zero, suc, ◌+◌, ◌-◌, ◌<◌, ◌≤◌, Bool, true, false, ◌||◌, eqb, ltb, List, [], ◌∷◌, ◌++◌, length, get_or, take, drop, set, sym, refl, ap, ◌∙◌, arith}
+use Rattle.std.proofs.Common.{◌≡◌, ℕ, zero, suc, ◌+◌, ◌-◌, ◌<◌, ◌≤◌, Bool, true, false, ◌||◌, eqb, ltb, List, [], ◌∷◌, ◌++◌, length, get_or, take, drop, set, sym, ap, ◌∙◌, arith}
 use Rattle.std.proofs.lemmas.List.{take_more, take_more_set, take_rest, at_drop_more, at_drop_all}
 use Rattle.std.proofs.lemmas.Bool.{or_parts, or_left, ltb-false, lt-ltb, le-ltb, eq-eqb, ne_eqb}
 use Rattle.host.specs.Refusals.{strays, holds_number, repeats}

@@ -1,5 +1,5 @@
 -- What the hash of a command comes to, and that it gives the outcome that a host means.
-use Rattle.std.proofs.Common.{◌≡◌, ℕ, ◌+◌, ◌<◌, ◌≤◌, Bool, true, false, cond, List, [], ◌∷◌, ◌++◌, map, length, get_or, drop, Some, None, Option, sym, refl, ap, ◌∙◌, inl, inr, arith}
+use Rattle.std.proofs.Common.{◌≡◌, ℕ, ◌+◌, ◌<◌, ◌≤◌, true, false, List, [], ◌∷◌, ◌++◌, map, length, get_or, drop, Some, None, Option, sym, refl, ap, ◌∙◌, inl, inr, arith}
 use Rattle.std.specs.List.{range_with_len, flat_map}
 use Rattle.std.specs.Option.{option_map}
 use Rattle.std.proofs.lemmas.List.{at_drop_more, at_drop_all}
@@ -8,7 +8,7 @@ use Rattle.std.proofs.lemmas.Bool.{cases_Bool, cond-true, cond-false}
 use Rattle.host.specs.declared.Stamped.{Stamped}
 use Rattle.host.specs.State.{Files, at}
 use Rattle.host.specs.Calls.{marks, with_mark, outcome_of}
-use Rattle.machine.specs.Fnv.{fnv_step, fnv_more, fnv_1a, low_first, fails, mark_of, hashes}
+use Rattle.machine.specs.Fnv.{fnv_more, fnv_1a, low_first, fails, mark_of, hashes}
 use Rattle.machine.specs.Pendings.{marks_from}
 use Rattle.machine.specs.Outcomes.{hash_by, hash_then, hash_from, hash_of}
 use Rattle.machine.proofs.Hashes.{fnv_more_append}

@@ -1,5 +1,5 @@
 -- One turn of the loops that settle and remove outputs.
-use Rattle.std.proofs.Common.{◌≡◌, ℕ, ◌+◌, ◌<◌, ◌≤◌, Bool, List, [], ◌∷◌, length, get_or, take, drop, set, None, sym, refl, ap, ◌∙◌, subst₂, zero-add, arith}
+use Rattle.std.proofs.Common.{◌≡◌, ℕ, ◌+◌, ◌<◌, ◌≤◌, Bool, List, length, get_or, drop, set, None, sym, refl, ap, ◌∙◌, subst₂, zero-add, arith}
 use Rattle.std.proofs.lemmas.List.{drop_more, drop_all, length-take-le, get_or-take, at_drop_more, at_drop_all}
 use Rattle.std.proofs.lemmas.List.FromFn.{length-map-range_with_len, get_or-map-range_with_len}
 use Rattle.host.specs.State.{Files}

@@ -1,5 +1,5 @@
 -- A disk as a volume. Assumes nothing.
-use Rattle.std.specs.Prelude.{ℕ, vec_items}
+use Rattle.std.specs.Prelude.{vec_items}
 use Rattle.machine.specs.declared.disk.Disk.{Disk}
 use Rattle.machine.specs.Ends.{Volume}
 

@@ -1,5 +1,5 @@
 -- 32-bit FNV-1a, and the marks that commands make by it. Assumes nothing.
-use Rattle.std.specs.Prelude.{◌≡◌, ℕ, ◌*◌, ◌/◌, ◌%◌, Bool, true, false, cond, ◌&&◌, List, [], ◌∷◌, ◌++◌, map, Some, None, codes, Option, ◌==◌, bit_xor}
+use Rattle.std.specs.Prelude.{ℕ, ◌*◌, ◌/◌, ◌%◌, Bool, true, false, cond, ◌&&◌, List, [], ◌∷◌, ◌++◌, map, Some, None, codes, ◌==◌, bit_xor}
 use Rattle.std.specs.List.{range_with_len, flat_map}
 use Rattle.host.specs.Calls.{Makes}
 

@@ -1,5 +1,5 @@
 -- The hash that a command's marks come of, worked out read by read. Assumes nothing.
-use Rattle.std.specs.Prelude.{ℕ, Bool, cond, List, [], ◌∷◌, Some, None, Option}
+use Rattle.std.specs.Prelude.{ℕ, cond, List, [], ◌∷◌, Some, None, Option}
 use Rattle.host.specs.declared.Stamped.{Stamped}
 use Rattle.host.specs.State.{Files, at}
 use Rattle.machine.specs.Fnv.{fnv_more, fnv_1a, low_first, fails}

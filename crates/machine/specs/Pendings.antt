@@ -1,5 +1,5 @@
 -- What a machine's own records mean. Assumes nothing.
-use Rattle.std.specs.Prelude.{◌≡◌, ℕ, List, [], ◌∷◌, map, take, Option}
+use Rattle.std.specs.Prelude.{ℕ, List, map, take}
 use Rattle.std.specs.List.{range_with_len}
 use Rattle.std.specs.Option.{option_map}
 use Rattle.host.specs.State.{Files, State, Command}

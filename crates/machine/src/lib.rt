@@ -1,4 +1,6 @@
 // The machine that simulator and replay share: files, a clock and pending commands whose marks are hashes.
+#![tactic(auto)]
+
 mod calls;
 mod checks;
 mod command;

@@ -1,7 +1,7 @@
 -- One turn of the search for the earliest, and its two ends, from the order's laws.
-use Rattle.std.proofs.Common.{◌≡◌, ℕ, zero, suc, ◌+◌, ◌<◌, ◌≤◌, Bool, true, false, cond, ◌⊎◌, List, [], ◌∷◌, length, get_or, drop, Some, None, Option, sym, refl, ap, ◌∙◌, subst, subst₂, inl, inr, arith, below_more}
+use Rattle.std.proofs.Common.{◌≡◌, ℕ, ◌+◌, ◌<◌, ◌≤◌, Bool, true, false, cond, List, [], ◌∷◌, length, get_or, drop, Some, sym, refl, ap, ◌∙◌, subst₂, inl, inr, arith, below_more}
 use Rattle.std.proofs.lemmas.List.{get_or_read, drop_more, drop_all}
-use Rattle.std.proofs.lemmas.Bool.{cases_Bool, cases_order, both_ways, cond-true, cond-false}
+use Rattle.std.proofs.lemmas.Bool.{cases_Bool, both_ways, cond-true, cond-false}
 use Rattle.order.specs.Earliest.{earliest_from, earliest_place, Earliest, SoFar}
 
 module _ {X : Type 0} (before : X → X → Bool)

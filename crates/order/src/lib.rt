@@ -1,4 +1,6 @@
 // The earliest of a slice of records, chosen by one text for every kind of record that has a total order.
+#![tactic(auto)]
+
 ghost use Rattle.std.specs.Prelude.{◌≡◌, ℕ, ◌+◌, ◌<◌, Bool, true, false, length, MatchOption};
 ghost use Rattle.order.specs.Earliest.{Earliest, SoFar, earliest_place};
 

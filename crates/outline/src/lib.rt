@@ -1,4 +1,6 @@
 // A manifest's outline, for people: a line for each statement, with its place, its kind and its names, or the refusal.
+#![tactic(auto)]
+
 ghost use Rattle.std.specs.Prelude.{◌≡◌, List, [], ◌∷◌, map, codes, decimal};
 ghost use Rattle.parts.specs.Parts.{entry_of, paths_of};
 ghost use Rattle.text.specs.Text.{lines_of, head_of, work_of, said_of, stated_of, manifest_of};

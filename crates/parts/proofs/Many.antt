@@ -1,6 +1,6 @@
 -- One reading more of a repeated one.
-use Rattle.std.proofs.Common.{◌≡◌, ℕ, zero, suc, ◌+◌, ◌<◌, ◌≤◌, List, [], ◌∷◌, ◌++◌, map, length, Some, None, Option, sym, refl, ◌∙◌, subst, arith}
-use Rattle.cursor.specs.Scan.{Out, ok, bad, and_then}
+use Rattle.std.proofs.Common.{◌≡◌, ℕ, zero, suc, ◌<◌, List, [], ◌∷◌, ◌++◌, length, Some, None, Option, sym, refl, ◌∙◌, subst, arith}
+use Rattle.cursor.specs.Scan.{Out, ok, bad}
 use Rattle.cursor.specs.declared.place.Fault.{Fault}
 use Rattle.cursor.proofs.Moves.{Ahead, Moves, then_moves, some}
 use Rattle.cursor.specs.Told.{maybe}

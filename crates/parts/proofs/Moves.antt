@@ -1,14 +1,14 @@
 -- How far the parts of statements go.
-use Rattle.std.proofs.Common.{◌≡◌, ℕ, suc, ◌+◌, ◌≤◌, Bool, true, false, cond, List, [], ◌∷◌, length, refl, arith}
+use Rattle.std.proofs.Common.{ℕ, suc, Bool, true, false, List, [], ◌∷◌, length, arith}
 use Rattle.std.proofs.lemmas.Bool.{cond_both}
-use Rattle.cursor.specs.Scan.{Out, ok, bad, and_then, gap, byte, name, value, next_path, first_path, bar, pair, lead}
+use Rattle.cursor.specs.Scan.{Out, bad, gap, byte, name, value, next_path, first_path, bar, pair, lead}
 use Rattle.cursor.specs.declared.place.Opens.TheVariants.{Gap, Nothing}
 use Rattle.cursor.specs.declared.lines.Lead.{Lead}
 use Rattle.cursor.specs.declared.lines.Lead.TheVariants.{Ends, Blank, Remark, Flush, Indented}
 use Rattle.cursor.proofs.Moves.{Ahead, Moves, here_ahead, moves_on, then_moves, next_moves, ahead_less, line_led, gap_moves, byte_moves, name_moves, value_moves, next_path_moves, first_path_moves, bar_moves, pair_moves, lead_moves}
 use Rattle.parts.specs.declared.kinds.Block.{Block}
-use Rattle.parts.specs.Many.{Turn, stop, more, repeat, each}
-use Rattle.parts.specs.Parts.{paths, some_paths, list_if, open_after, last_list, outputs, inputs, set_to, takes, set_in, setting, block_line, block_turn, block, between, skip_turn, skipped}
+use Rattle.parts.specs.Many.{Turn, repeat, each}
+use Rattle.parts.specs.Parts.{paths, some_paths, list_if, open_after, last_list, outputs, inputs, set_to, takes, setting, block_line, block_turn, block, between, skip_turn, skipped}
 use Rattle.parts.proofs.Many.{turned, many_moves, each_moves}
 
 pub repeat_moves : {E : Type 0} (f : ℕ → List ℕ → Out (Turn E)) → ((i : ℕ) (s : List ℕ) → Moves turned i s (f i s)) → (es : List E) (i : ℕ) (s : List ℕ) → Moves (λ _. 0) i s (repeat f es i s)

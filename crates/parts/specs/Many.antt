@@ -1,6 +1,6 @@
 -- Readings that go on until one says that it was the last.
 use Rattle.std.specs.Prelude.{ℕ, zero, suc, List, [], ◌∷◌, ◌++◌, length, Some, None, Option}
-use Rattle.cursor.specs.Scan.{Out, ok, bad, and_then}
+use Rattle.cursor.specs.Scan.{Out, ok, and_then}
 
 -- what one reading adds, or that it was the last
 pub data Turn (E : Type 0) : Type 0 where

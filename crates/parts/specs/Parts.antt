@@ -1,11 +1,10 @@
 -- Lists of paths, blocks, and the lines between statements.
-use Rattle.std.specs.Prelude.{◌≡◌, ℕ, Bool, true, false, cond, List, [], ◌∷◌, ◌++◌, map, Ok, Err, vec_items, Result, Vec}
+use Rattle.std.specs.Prelude.{◌≡◌, ℕ, Bool, true, false, cond, List, [], ◌∷◌, map, Ok, Err, vec_items, Result, Vec}
 use Rattle.std.specs.Borrow.{Bor}
 use Rattle.std.specs.declared.alloc.Global.{Global}
 use Rattle.byteclass.specs.Words.{rule_takes, pool_takes}
 use Rattle.cursor.specs.Scan.{Out, ok, bad, and_then, spot, gap, name, byte, value, next_path, first_path, bar, pair, lead}
 use Rattle.cursor.specs.declared.place.Cursor.{Cursor}
-use Rattle.cursor.specs.declared.place.Fault.{Fault}
 use Rattle.cursor.specs.declared.place.Fault.TheVariants.{Syntax, LeftOut}
 use Rattle.cursor.specs.declared.place.Opens.{Opens}
 use Rattle.cursor.specs.declared.place.Opens.TheVariants.{Nothing, Gap, Mark}

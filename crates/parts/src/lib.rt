@@ -1,4 +1,6 @@
 // The parts of statements: lists of paths, blocks of variables, and the lines between statements.
+#![tactic(auto)]
+
 pub mod blocks;
 pub mod kinds;
 pub mod lists;

@@ -1,16 +1,15 @@
 -- The table of turns, and the replay after a poll.
-use Rattle.std.proofs.Common.{◌≡◌, ℕ, ◌+◌, ◌-◌, ◌<◌, ◌≤◌, Bool, List, [], ◌∷◌, ◌++◌, map, length, get_or, take, drop, set, Option, sym, refl, ap, ◌∙◌, subst, arith, MatchOption}
+use Rattle.std.proofs.Common.{◌≡◌, ℕ, ◌+◌, ◌-◌, ◌<◌, ◌≤◌, Bool, List, [], ◌∷◌, ◌++◌, length, get_or, take, drop, set, Option, sym, ap, ◌∙◌, subst, arith, MatchOption}
 use Rattle.std.proofs.lemmas.List.{length-map, get_or-map, take_more, take_more_set, take_all}
 use Rattle.host.specs.State.{State, Command, no_command}
 use Rattle.machine.specs.Ends.{finished}
-use Rattle.machine.specs.Machines.{state_of, capacity_of}
+use Rattle.machine.specs.Machines.{state_of}
 use Rattle.machine.proofs.Laws.{machine_lawful}
 use Rattle.order.specs.Earliest.{Earliest, earliest_place}
 use Rattle.replay.specs.declared.replay.Replay.{Replay}
 use Rattle.replay.specs.declared.turn.Turn.{Turn}
 use Rattle.replay.specs.Turns.{by_place, turn_of, left_after}
 use Rattle.replay.specs.Replays.{Rep, turns, turn_at, next_place, rep_ended}
-use Rattle.replay.specs.Meaning.{rep_of}
 
 -- no more than eight commands are pending
 pub few_pending : (r : Replay) → length (state_of r.machine).pending ≤ 8

@@ -1,7 +1,7 @@
 -- What the replay's calls do, exactly. Assumes nothing.
-use Rattle.std.specs.Prelude.{◌≡◌, ℕ, Bool, true, cond, List, map, length, Some, None, Option, slice_index_or}
+use Rattle.std.specs.Prelude.{◌≡◌, ℕ, Bool, true, List, map, Some, None, Option, slice_index_or}
 use Rattle.host.specs.declared.Ended.{Ended}
-use Rattle.host.specs.State.{State, Command, no_command}
+use Rattle.host.specs.State.{State, no_command}
 use Rattle.machine.specs.Ends.{finished, ending}
 use Rattle.order.specs.Earliest.{Earliest, earliest_place}
 use Rattle.replay.specs.declared.turn.Turn.{Turn}

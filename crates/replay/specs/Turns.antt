@@ -1,5 +1,5 @@
 -- The endings of a recording, and whose turn it is. Assumes nothing.
-use Rattle.std.specs.Prelude.{ℕ, ◌+◌, Bool, true, false, cond, not, ◌&&◌, ◌||◌, List, [], ◌∷◌, length, drop, Some, None, codes, Option, ◌==◌, nat_lt}
+use Rattle.std.specs.Prelude.{ℕ, ◌+◌, Bool, true, cond, not, ◌&&◌, ◌||◌, List, [], ◌∷◌, length, drop, Some, None, Option, ◌==◌, nat_lt}
 use Rattle.replay.specs.declared.turn.Turn.{Turn}
 
 -- the nearer ending comes first, and of equal places the lower edge

@@ -1,4 +1,6 @@
 // A machine along a recording of a real one: the commands end in the order that the recording has.
+#![tactic(auto)]
+
 mod calls;
 mod next;
 mod recording;

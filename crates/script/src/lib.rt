@@ -1,4 +1,6 @@
 // The text of a script: its lines, their words, and the numbers among them.
+#![tactic(auto)]
+
 mod lines;
 mod numbers;
 

@@ -1,11 +1,10 @@
 -- What the simulator's invariant says of its dues, through each call.
-use Rattle.std.proofs.Common.{◌≡◌, ℕ, ◌+◌, ◌*◌, ◌<◌, ◌≤◌, Bool, List, [], ◌∷◌, ◌++◌, map, length, get_or, Some, None, sym, refl, ap, ◌∙◌, subst, inl, inr, arith}
+use Rattle.std.proofs.Common.{◌≡◌, ℕ, ◌+◌, ◌*◌, ◌<◌, ◌≤◌, List, [], ◌∷◌, ◌++◌, map, length, get_or, None, sym, ap, ◌∙◌, subst, inl, inr, arith}
 use Rattle.std.specs.List.{remove}
-use Rattle.std.proofs.lemmas.List.{length-map, length_push, map_push, get_or-map, get_or_push, get_or_append_left, get_or_read, nil_from_length}
+use Rattle.std.proofs.lemmas.List.{length-map, length_push, map_push, get_or-map, get_or_push, get_or_append_left}
 use Rattle.std.proofs.lemmas.List.Edits.{length-remove, get_or-remove_below, get_or-remove_above}
 use Rattle.std.proofs.lemmas.Bool.{cases_lt}
 use Rattle.host.specs.State.{State, Command, no_command}
-use Rattle.host.specs.Calls.{started}
 use Rattle.host.proofs.Pends.{map_removed}
 use Rattle.simulator.specs.declared.due.Due.{Due}
 use Rattle.simulator.specs.Dues.{due_edge, no_due}

@@ -1,5 +1,5 @@
 -- What the simulator's calls do, exactly. Assumes nothing.
-use Rattle.std.specs.Prelude.{◌≡◌, ℕ, ◌+◌, ◌*◌, ◌<◌, ◌≤◌, Bool, false, cond, List, [], ◌∷◌, ◌++◌, map, length, Some, None, Option, nat_lt, slice_index_or}
+use Rattle.std.specs.Prelude.{◌≡◌, ℕ, ◌+◌, Bool, false, cond, List, [], ◌∷◌, ◌++◌, map, length, Some, None, Option, nat_lt, slice_index_or}
 use Rattle.std.specs.List.{remove}
 use Rattle.host.specs.declared.Ended.{Ended}
 use Rattle.host.specs.declared.Refusal.{Refusal}
@@ -9,9 +9,9 @@ use Rattle.host.specs.Refusals.{start_refusal, write_refusal}
 use Rattle.machine.specs.Fnv.{hashes, command_text}
 use Rattle.machine.specs.Ends.{finished, ending, place_of, broken_at}
 use Rattle.machine.specs.Machines.{fresh}
-use Rattle.order.specs.Earliest.{Earliest, earliest_place}
+use Rattle.order.specs.Earliest.{Earliest}
 use Rattle.simulator.specs.declared.due.Due.{Due}
-use Rattle.simulator.specs.Dues.{by_due, due_edge, no_due}
+use Rattle.simulator.specs.Dues.{by_due, no_due}
 
 -- a simulator at one moment: the host that it is, its tick, and when each pending command is due, in the order of the pending
 pub record Sim : Type 0 where

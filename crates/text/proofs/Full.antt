@@ -1,6 +1,6 @@
 -- What is of the grammar is read.
-use Rattle.std.proofs.Common.{◌≡◌, ℕ, zero, suc, ◌+◌, ◌-◌, ◌<◌, ◌≤◌, Bool, true, false, cond, ◌&&◌, ◌||◌, eqb, ltb, ◌⊎◌, List, [], ◌∷◌, ◌++◌, length, get_or, take, drop, sym, refl, ap, ◌∙◌, subst, inl, inr, ⊎_elim, add-zero, arith}
-use Rattle.std.proofs.lemmas.Bool.{cond_both, cases_Bool, eqb-true, eqb-false, eq-eqb, ne_eqb, and_parts, and_from, false≢true, lt-ltb}
+use Rattle.std.proofs.Common.{◌≡◌, ℕ, suc, ◌+◌, Bool, true, false, ◌&&◌, ◌||◌, eqb, ◌⊎◌, List, [], ◌∷◌, get_or, take, drop, sym, refl, ap, ◌∙◌, subst, add-zero, arith}
+use Rattle.std.proofs.lemmas.Bool.{cond_both, eqb-true, eq-eqb, ne_eqb, and_parts, and_from, false≢true, lt-ltb}
 use Rattle.std.proofs.lemmas.List.{get_or-drop}
 use Rattle.std.proofs.lemmas.Bool.Decides.{nat_tests}
 use Rattle.byteclass.specs.Class.{class, name_byte, simple_byte}
@@ -8,7 +8,7 @@ use Rattle.cursor.specs.Scan.{Out, ok, bad, and_then, up_to, name_len, name_of, 
 use Rattle.cursor.specs.declared.place.Opens.{Opens}
 use Rattle.cursor.proofs.Steps.{name_within, gap_space, gap_wrap, scan_line, scan_plain, walk_blank, walk_plain}
 use Rattle.text.specs.Grammar.{Spaces, Gap, Comment, Name, Escape, Value, Path}
-use Rattle.text.proofs.Sound.{not_name, name_10, name_32, name_36, name_58, name_124, name_125, up_to_drop, name_stops}
+use Rattle.text.proofs.Sound.{not_name, name_10, name_36, up_to_drop, name_stops}
 
 -- a reading succeeds with a, and r is left
 abbrev pub Reads : {A : Type 0} → A → List ℕ → Out A → Type 0

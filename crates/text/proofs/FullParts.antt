@@ -1,26 +1,21 @@
 -- Lists, blocks and statements of the grammar are read.
-use Rattle.std.proofs.Common.{◌≡◌, ℕ, zero, suc, ◌+◌, ◌-◌, ◌<◌, ◌≤◌, Bool, true, false, cond, ◌&&◌, ◌||◌, eqb, ◌⊎◌, List, [], ◌∷◌, ◌++◌, length, get_or, Some, None, Option, sym, refl, ap, ◌∙◌, subst, ⊎_elim, append_assoc, append-nil, arith}
-use Rattle.std.proofs.lemmas.Bool.{cond_both, cases_Bool, eqb-true, eqb-false, eq-eqb, ne_eqb, and_parts, and_from, false≢true}
-use Rattle.std.proofs.lemmas.Bool.Decides.{nat_tests}
-use Rattle.byteclass.specs.Class.{class, name_byte}
+use Rattle.std.proofs.Common.{◌≡◌, ℕ, zero, suc, ◌+◌, ◌-◌, ◌<◌, Bool, true, false, ◌&&◌, ◌||◌, eqb, List, [], ◌∷◌, ◌++◌, length, get_or, Some, None, sym, refl, ap, ◌∙◌, subst, append_assoc, append-nil, arith}
+use Rattle.std.proofs.lemmas.Bool.{cond_both, eqb-true, eqb-false, eq-eqb, ne_eqb, and_parts, and_from, false≢true}
 use Rattle.byteclass.specs.Words.{word_of}
-use Rattle.byteclass.specs.declared.words.Word.{Word}
-use Rattle.byteclass.specs.declared.words.Word.TheVariants.{Rule, Pool, Build, LeftOut, Plain}
 use Rattle.cursor.specs.Scan.{Out, ok, bad, and_then, up_to, name, spaces, gap, comment, byte, value, stops, path, any_path, next_path, needed, first_path, bar, pair, indented, flush, lead}
 use Rattle.cursor.specs.declared.place.Opens.TheVariants.{Nothing, Gap as GapOpen}
 use Rattle.cursor.specs.declared.lines.Lead.{Lead}
 use Rattle.cursor.specs.declared.lines.Lead.TheVariants.{Ends, Blank as BlankLead, Remark as RemarkLead, Flush as FlushLead, Indented}
 use Rattle.cursor.proofs.Moves.{Ahead, Moves, next_path_moves}
-use Rattle.parts.specs.Many.{Turn, stop, more, turn, turn_of, many, repeat, each}
-use Rattle.parts.specs.Parts.{Entry, Outs, Ins, paths, some_paths, list_if, open_after, last_list, outputs, inputs, set_to, takes, set_in, setting, block_line, block_turn, block, between, skip_turn, skipped}
+use Rattle.parts.specs.Many.{Turn, stop, more, many, repeat, each}
+use Rattle.parts.specs.Parts.{Entry, Outs, Ins, paths, some_paths, list_if, open_after, last_list, outputs, inputs, set_to, setting, block_line, block_turn, block, between, skip_turn, skipped}
 use Rattle.parts.specs.declared.kinds.Block.{Block}
 use Rattle.parts.specs.declared.kinds.Block.TheVariants.{Rule as RuleBlock, Pool as PoolBlock, Build as BuildBlock}
 use Rattle.parts.proofs.Many.{turned, each_moves}
 use Rattle.parts.proofs.Moves.{block_turn_moves, skip_turn_moves, skipped_moves}
 use Rattle.text.specs.Text.{Head, Work, Said, variable, rule, pool, build, Stated, declared, edge, by_word, statement, at_start, next, statements}
-use Rattle.text.specs.Grammar.{Spaces, Gap, Comment, Name, Value, Path, Run, OnePath, NoPath, Paths, Bar, Pair, Section, Outputs, Inputs, SetTo, Setting, Blank, Remark, Flush, Indent, BlockLine, BlockEnd, Lines, Heading, Working, Says, Idle, Between, OneStatement, NoStatement, Statements}
+use Rattle.text.specs.Grammar.{Spaces, Comment, Name, Run, OnePath, NoPath, Paths, Bar, Pair, Section, Outputs, Inputs, SetTo, Setting, Blank, Remark, Flush, Indent, BlockLine, BlockEnd, Lines, Heading, Working, Says, Idle, Between, OneStatement, NoStatement, Statements}
 use Rattle.text.proofs.Moves.{next_statement_moves}
-use Rattle.text.proofs.Sound.{not_name, name_10, name_32}
 use Rattle.text.proofs.Full.{Reads, then_reads, spaces_full, gap_full, comment_full, byte_full, name_full, value_full, path_full}
 
 -- with how far the reading went

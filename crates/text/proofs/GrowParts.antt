@@ -1,5 +1,5 @@
 -- Lists of paths, blocks and statements: an ending for what stands open at n.
-use Rattle.std.proofs.Common.{◌≡◌, ℕ, zero, suc, ◌+◌, ◌-◌, ◌<◌, ◌≤◌, Bool, true, false, ◌⊎◌, List, [], ◌∷◌, ◌++◌, length, Some, None, sym, refl, ap, ◌∙◌, subst, inl, inr, arith}
+use Rattle.std.proofs.Common.{◌≡◌, ℕ, zero, suc, ◌+◌, ◌<◌, ◌≤◌, Bool, true, false, ◌⊎◌, List, [], ◌∷◌, ◌++◌, length, Some, None, sym, refl, ap, ◌∙◌, subst, inl, inr, arith}
 use Rattle.std.proofs.lemmas.Bool.{cond_both, eqb-true, eq-eqb, false≢true}
 use Rattle.byteclass.specs.Class.{class}
 use Rattle.byteclass.specs.Words.{rule_takes, pool_takes}
@@ -9,7 +9,7 @@ use Rattle.cursor.specs.declared.place.Opens.{Opens}
 use Rattle.cursor.specs.declared.place.Opens.TheVariants.{Nothing, Gap, Mark}
 use Rattle.cursor.proofs.Moves.{Ahead, Moves, next_path_moves}
 use Rattle.parts.specs.Many.{Turn, stop, more, turn, turn_of, many, repeat, each}
-use Rattle.parts.specs.Parts.{Outs, Ins, paths, some_paths, list_if, open_after, last_list, outputs, inputs, set_to, takes, set_in, setting, block}
+use Rattle.parts.specs.Parts.{Outs, Ins, paths, some_paths, list_if, open_after, last_list, outputs, inputs, set_to, takes, set_in, setting}
 use Rattle.parts.specs.declared.kinds.Block.{Block}
 use Rattle.parts.specs.declared.kinds.Block.TheVariants.{Rule as RuleBlock, Pool as PoolBlock, Build as BuildBlock}
 use Rattle.parts.proofs.Many.{turned, each_moves}

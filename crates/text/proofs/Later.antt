@@ -1,5 +1,5 @@
 -- A reading that begins at or after n neither ends nor finds a byte at fault before n.
-use Rattle.std.proofs.Common.{◌≡◌, ℕ, zero, suc, ◌+◌, ◌<◌, ◌≤◌, Bool, true, false, cond, ◌&&◌, ◌||◌, eqb, List, [], ◌∷◌, ◌++◌, length, drop, Some, None, Option, refl, arith}
+use Rattle.std.proofs.Common.{ℕ, zero, suc, ◌+◌, ◌≤◌, Bool, true, false, cond, ◌&&◌, ◌||◌, eqb, List, [], ◌∷◌, ◌++◌, length, Some, None, Option, arith}
 use Rattle.std.proofs.lemmas.Bool.{cond_both}
 use Rattle.byteclass.specs.Words.{word_of}
 use Rattle.byteclass.specs.declared.words.Word.{Word}
@@ -11,11 +11,11 @@ use Rattle.cursor.specs.declared.place.Opens.{Opens}
 use Rattle.cursor.specs.declared.place.Opens.TheVariants.{Nothing, Gap}
 use Rattle.cursor.specs.declared.lines.Lead.{Lead}
 use Rattle.cursor.specs.declared.lines.Lead.TheVariants.{Ends, Blank, Remark, Flush, Indented}
-use Rattle.parts.specs.Many.{Turn, stop, more, turn, turn_of, many, repeat, each}
-use Rattle.parts.specs.Parts.{Ins, paths, some_paths, list_if, open_after, last_list, outputs, inputs, set_to, takes, set_in, setting, block_line, block_turn, block, between, skip_turn, skipped}
+use Rattle.parts.specs.Many.{Turn, stop, more, turn, many, repeat, each}
+use Rattle.parts.specs.Parts.{Ins, paths, some_paths, list_if, open_after, last_list, outputs, inputs, set_to, takes, setting, block_line, block_turn, block, between, skip_turn, skipped}
 use Rattle.parts.specs.declared.kinds.Block.{Block}
 use Rattle.parts.specs.declared.kinds.Block.TheVariants.{Rule as RuleBlock, Pool as PoolBlock, Build as BuildBlock}
-use Rattle.text.specs.Text.{Stated, declared, edge, by_word, statement, at_start, next, statements}
+use Rattle.text.specs.Text.{declared, edge, by_word, statement, at_start, next}
 
 -- a fault of the grammar is not before n
 abbrev pub LateFault : ℕ → Fault → Type 0

@@ -1,6 +1,6 @@
 -- The texts that are accepted are the manifests of the grammar, with just their statements.
-use Rattle.std.proofs.Common.{◌≡◌, ℕ, zero, suc, ◌+◌, ◌<◌, ◌≤◌, Bool, true, false, cond, ltb, List, [], ◌∷◌, map, length, get_or, Some, None, Ok, Err, vec_items, Option, Result, Vec, sym, refl, ap, ◌∙◌, subst, ⊎_elim, arith}
-use Rattle.std.proofs.lemmas.Bool.{cond_both, ltb-false, ltb-true, cases_Bool}
+use Rattle.std.proofs.Common.{◌≡◌, ℕ, zero, suc, ◌+◌, ◌<◌, ◌≤◌, false, ltb, List, [], ◌∷◌, length, get_or, Some, None, Ok, Err, Option, Result, Vec, sym, refl, ◌∙◌, subst, arith}
+use Rattle.std.proofs.lemmas.Bool.{cond_both, ltb-false, ltb-true}
 use Rattle.std.specs.declared.alloc.Global.{Global}
 use Rattle.byteclass.specs.Class.{banned_byte}
 use Rattle.cursor.specs.Scan.{Out, ok, bad, spot}
@@ -9,7 +9,7 @@ use Rattle.cursor.specs.declared.place.Fault.TheVariants.{TooLong, Banned}
 use Rattle.parts.specs.declared.refusal.Refusal.{Refusal}
 use Rattle.parts.specs.declared.refusal.Refusal.TheVariants.{Faulty, Memory}
 use Rattle.text.specs.declared.kinds.Statement.{Statement}
-use Rattle.text.specs.Text.{Stated, stated_of, statements, first_banned, checked, unless, manifest_of, Comes, Answers}
+use Rattle.text.specs.Text.{Stated, statements, first_banned, checked, unless, manifest_of, Comes, Answers}
 use Rattle.text.specs.Grammar.{Statements, Manifest, Admits}
 use Rattle.text.proofs.Sound.{Sound}
 use Rattle.text.proofs.SoundParts.{statements_sound}

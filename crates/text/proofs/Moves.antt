@@ -1,11 +1,11 @@
 -- How far statements go.
-use Rattle.std.proofs.Common.{ℕ, ◌+◌, ◌≤◌, List, [], ◌∷◌, arith}
+use Rattle.std.proofs.Common.{ℕ, List, [], ◌∷◌, arith}
 use Rattle.byteclass.specs.Words.{word_of}
 use Rattle.byteclass.specs.declared.words.Word.{Word}
 use Rattle.byteclass.specs.declared.words.Word.TheVariants.{Rule, Pool, Build, LeftOut, Plain}
-use Rattle.cursor.specs.Scan.{Out, ok, bad, and_then, gap, byte, name}
+use Rattle.cursor.specs.Scan.{gap, byte, name}
 use Rattle.cursor.specs.declared.place.Opens.TheVariants.{Gap, Nothing}
-use Rattle.cursor.proofs.Moves.{Ahead, Moves, here_ahead, moves_on, then_moves, next_moves, ahead_less, some, gap_moves, byte_moves, name_moves}
+use Rattle.cursor.proofs.Moves.{Moves, here_ahead, moves_on, then_moves, next_moves, ahead_less, some, gap_moves, byte_moves, name_moves}
 use Rattle.parts.specs.Parts.{outputs, inputs, set_to, block, skipped}
 use Rattle.parts.specs.declared.kinds.Block.{Block}
 use Rattle.parts.specs.declared.kinds.Block.TheVariants.{Rule as RuleBlock, Pool as PoolBlock, Build as BuildBlock}

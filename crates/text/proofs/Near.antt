@@ -1,16 +1,13 @@
 -- Two texts that begin alike are read alike up to where they part: u is what they share, x and y what follows, n the place where they part.
-use Rattle.std.proofs.Common.{◌≡◌, ℕ, zero, suc, ◌+◌, ◌-◌, ◌<◌, ◌≤◌, Bool, true, false, cond, ◌&&◌, ◌||◌, eqb, ltb, ◌⊎◌, List, [], ◌∷◌, ◌++◌, length, get_or, take, drop, Some, None, Option, sym, refl, ap, ◌∙◌, subst, inl, inr, ⊎_elim, append_assoc, arith, length-append, length-drop}
-use Rattle.std.proofs.lemmas.Bool.{cond_both, cases_Bool, eqb-true, eqb-false, ne_eqb, eq-eqb, and_parts, and_from, ltb-true, lt-ltb, false≢true}
+use Rattle.std.proofs.Common.{◌≡◌, ℕ, zero, suc, ◌+◌, ◌<◌, ◌≤◌, Bool, true, false, cond, eqb, ◌⊎◌, List, [], ◌∷◌, ◌++◌, length, take, drop, sym, refl, ap, ◌∙◌, subst, inl, inr, ⊎_elim, arith, length-drop}
+use Rattle.std.proofs.lemmas.Bool.{cond_both}
 use Rattle.std.proofs.lemmas.List.{take-append-le}
-use Rattle.byteclass.specs.Class.{name_byte, simple_byte}
-use Rattle.cursor.specs.Scan.{Out, ok, bad, and_then, spot, up_to, opens, lack, name_len, name_of, name, spaces, gap, comment, byte, braced, escaped, scan, value, stops, walk, path, any_path, next_path, needed, first_path, bar, pair, indented, flush, lead}
+use Rattle.byteclass.specs.Class.{name_byte}
+use Rattle.cursor.specs.Scan.{Out, ok, bad, and_then, spot, opens, lack, name_len, name_of, name, spaces, comment, byte}
 use Rattle.cursor.specs.declared.place.Fault.{Fault}
 use Rattle.cursor.specs.declared.place.Fault.TheVariants.{TooLong, Banned, Syntax, Dollar, LeftOut as LeftOutAt}
 use Rattle.cursor.specs.declared.place.Opens.{Opens}
-use Rattle.cursor.specs.declared.place.Opens.TheVariants.{Nothing, Gap as GapOpen}
-use Rattle.cursor.proofs.Steps.{gap_space, scan_line, scan_plain}
-use Rattle.text.proofs.Sound.{not_name, name_10, name_36}
-use Rattle.text.proofs.Later.{LateFault, Later, gap_later, name_later, byte_later, scan_later, comment_later, spaces_later}
+use Rattle.text.proofs.Later.{LateFault, Later, name_later, byte_later, comment_later, spaces_later}
 
 -- the same was read, and both texts go on with v
 pub record Kept {A : Type 0} (n : ℕ) (x y : List ℕ) (a : A) (j : ℕ) (r : List ℕ) (o : Out A) : Type 0 where

@@ -1,16 +1,15 @@
 -- Lists, blocks and statements of two texts that begin alike.
-use Rattle.std.proofs.Common.{◌≡◌, ℕ, zero, suc, ◌+◌, ◌-◌, ◌<◌, ◌≤◌, Bool, true, false, cond, ◌&&◌, ◌||◌, eqb, ◌⊎◌, List, [], ◌∷◌, ◌++◌, length, Some, None, Option, sym, refl, ap, ◌∙◌, subst, inl, inr, ⊎_elim, arith, length-append}
-use Rattle.std.proofs.lemmas.Bool.{cond_both, cases_Bool, eqb-true, eqb-false, ne_eqb, eq-eqb}
+use Rattle.std.proofs.Common.{◌≡◌, ℕ, zero, suc, ◌+◌, ◌<◌, ◌≤◌, Bool, true, false, cond, ◌&&◌, ◌||◌, eqb, List, [], ◌∷◌, ◌++◌, length, Some, None, Option, sym, refl, ap, subst, inl, inr, ⊎_elim, arith, length-append}
+use Rattle.std.proofs.lemmas.Bool.{cond_both, cases_Bool, eqb-true}
 use Rattle.byteclass.specs.Words.{word_of}
 use Rattle.byteclass.specs.declared.words.Word.{Word}
 use Rattle.byteclass.specs.declared.words.Word.TheVariants.{Rule, Pool, Build, LeftOut, Plain}
-use Rattle.cursor.specs.Scan.{Out, ok, bad, and_then, spot, name_of, name, spaces, gap, comment, byte, scan, value, stops, walk, path, any_path, next_path, needed, first_path, bar, pair, indented, flush, lead}
+use Rattle.cursor.specs.Scan.{Out, ok, bad, and_then, spot, name, spaces, gap, comment, byte, scan, value, stops, walk, path, any_path, next_path, needed, first_path, bar, pair, indented, flush, lead}
 use Rattle.cursor.specs.declared.place.Fault.TheVariants.{Syntax, LeftOut as LeftOutAt}
-use Rattle.cursor.specs.declared.place.Opens.{Opens}
-use Rattle.cursor.specs.declared.place.Opens.TheVariants.{Nothing, Gap, Mark}
+use Rattle.cursor.specs.declared.place.Opens.TheVariants.{Nothing, Gap}
 use Rattle.cursor.specs.declared.lines.Lead.{Lead}
 use Rattle.cursor.specs.declared.lines.Lead.TheVariants.{Ends, Blank, Remark, Flush, Indented}
-use Rattle.cursor.proofs.Moves.{Ahead, Moves, next_path_moves}
+use Rattle.cursor.proofs.Moves.{Moves, next_path_moves}
 use Rattle.parts.specs.Many.{Turn, stop, more, turn, turn_of, many, repeat, each}
 use Rattle.parts.specs.Parts.{Entry, Outs, Ins, paths, some_paths, list_if, open_after, last_list, outputs, inputs, set_to, takes, setting, block_line, block_turn, block, between, skip_turn, skipped}
 use Rattle.parts.specs.declared.kinds.Block.{Block}
@@ -20,8 +19,8 @@ use Rattle.parts.proofs.Moves.{block_turn_moves, skip_turn_moves}
 use Rattle.text.specs.Text.{Head, Work, declared, edge, by_word, statement, at_start, next, statements}
 use Rattle.text.proofs.Moves.{next_statement_moves}
 use Rattle.text.proofs.Sound.{name_36}
-use Rattle.text.proofs.Later.{Later, then_later, gap_later, inputs_after, name_later, byte_later, value_later, walk_later, any_path_later, next_path_later, needed_later, bar_later, pair_later, indented_later, flush_later, lead_later, turn_later, many_later, repeat_later, each_later, paths_later, list_if_later, last_list_later, set_to_later, setting_later, block_line_later, block_later, tail_later, inputs_later, declared_later, edge_later, by_word_later, skip_turn_later, at_start_later, next_later}
-use Rattle.text.proofs.Near.{Kept, Near, fault_then, later_near, then_near, then_near2, ok_near, two, byte_near, comment_near, spaces_near, name_near}
+use Rattle.text.proofs.Later.{Later, then_later, gap_later, inputs_after, name_later, byte_later, value_later, any_path_later, next_path_later, needed_later, bar_later, pair_later, indented_later, lead_later, turn_later, many_later, each_later, paths_later, list_if_later, last_list_later, set_to_later, block_line_later, block_later, tail_later, inputs_later, by_word_later, skip_turn_later, at_start_later, next_later}
+use Rattle.text.proofs.Near.{Near, fault_then, later_near, then_near, ok_near, two, byte_near, comment_near, spaces_near, name_near}
 use Rattle.text.proofs.NearScan.{Edge, near_edge, then_edge, two_edge, gap_near, scan_dollar_late, walk_dollar_late, value_near, path_near}
 
 -- what follows a gap, right after a `$` where the texts part, is late

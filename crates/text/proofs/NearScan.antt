@@ -1,6 +1,6 @@
 -- Gaps, values and paths of two texts that begin alike.
-use Rattle.std.proofs.Common.{◌≡◌, ℕ, zero, suc, ◌+◌, ◌-◌, ◌<◌, ◌≤◌, Bool, true, false, cond, ◌&&◌, ◌||◌, eqb, ltb, ◌⊎◌, List, [], ◌∷◌, ◌++◌, length, get_or, take, drop, Some, None, Option, sym, refl, ap, ◌∙◌, subst, inl, inr, ⊎_elim, arith, length-append}
-use Rattle.std.proofs.lemmas.Bool.{cond_both, cases_Bool, eqb-true, eqb-false, ne_eqb, eq-eqb, and_parts, and_from, ltb-true, lt-ltb, false≢true}
+use Rattle.std.proofs.Common.{◌≡◌, ℕ, zero, suc, ◌+◌, ◌-◌, ◌<◌, ◌≤◌, Bool, true, false, cond, ◌&&◌, ◌||◌, eqb, ltb, ◌⊎◌, List, [], ◌∷◌, ◌++◌, length, get_or, take, sym, refl, ap, ◌∙◌, subst, inl, inr, ⊎_elim, arith, length-append}
+use Rattle.std.proofs.lemmas.Bool.{cond_both, cases_Bool, eqb-true, eqb-false, ne_eqb, eq-eqb, and_parts, and_from, false≢true}
 use Rattle.std.proofs.lemmas.List.{take-append-le}
 use Rattle.byteclass.specs.Class.{name_byte, simple_byte}
 use Rattle.cursor.specs.Scan.{Out, ok, bad, and_then, spot, up_to, name_len, gap, braced, escaped, scan, value, stops, walk, path}
@@ -8,7 +8,7 @@ use Rattle.cursor.specs.declared.place.Fault.{Fault}
 use Rattle.cursor.specs.declared.place.Fault.TheVariants.{TooLong, Banned, Syntax, Dollar, LeftOut as LeftOutAt}
 use Rattle.cursor.proofs.Steps.{gap_space, scan_line, scan_plain, walk_plain}
 use Rattle.text.proofs.Sound.{not_name, name_10, name_36, name_stops}
-use Rattle.text.proofs.Later.{LateFault, Later, gap_later, scan_later, walk_later}
+use Rattle.text.proofs.Later.{Later, gap_later, scan_later, walk_later}
 use Rattle.text.proofs.Near.{Kept, NearFault, Near, later_near, then_near, ok_near, two, name_len_near}
 
 -- as Near, but where the texts part right after a byte c, what follows may decide

@@ -1,9 +1,9 @@
 -- A refusal of one statement is a refusal of all.
-use Rattle.std.proofs.Common.{◌≡◌, ℕ, cond, ltb, List, map, length, take, Some, None, Ok, Err, vec_items, Option, Result, Vec, sym, refl, ◌∙◌, subst, arith}
+use Rattle.std.proofs.Common.{◌≡◌, ℕ, ltb, List, map, length, take, Some, None, Ok, Err, vec_items, Result, Vec, refl, ◌∙◌, subst, arith}
 use Rattle.std.proofs.lemmas.List.{take_all}
 use Rattle.std.proofs.lemmas.Bool.{cond_both, ltb-false}
 use Rattle.std.specs.declared.alloc.Global.{Global}
-use Rattle.cursor.specs.Scan.{Out, ok, bad}
+use Rattle.cursor.specs.Scan.{Out, bad}
 use Rattle.cursor.specs.declared.place.Cursor.{Cursor}
 use Rattle.cursor.specs.declared.place.Fault.{Fault}
 use Rattle.cursor.specs.declared.place.Fault.TheVariants.{TooLong}
@@ -13,7 +13,7 @@ use Rattle.parts.specs.declared.refusal.Refusal.{Refusal}
 use Rattle.parts.specs.declared.refusal.Refusal.TheVariants.{Faulty, Memory}
 use Rattle.parts.proofs.Many.{Sofar, each_moves, fail_here, bad_each}
 use Rattle.text.specs.declared.kinds.Statement.{Statement}
-use Rattle.text.specs.Text.{Stated, stated_of, next, statements, first_banned, checked, unless, manifest_of, Comes, Answers, refused_by}
+use Rattle.text.specs.Text.{Stated, stated_of, next, statements, first_banned, checked, manifest_of, Answers}
 use Rattle.text.proofs.Moves.{next_statement_moves}
 
 pub refused_here : (e : Refusal) (i : ℕ) (s : List ℕ) (o : Out (List Stated)) (es : List Stated) → Sofar (each next) o i s es → Stops e (next i s) → Stops e o

@@ -1,5 +1,5 @@
 -- Statements, and the whole manifest.
-use Rattle.std.specs.Prelude.{◌≡◌, ℕ, ◌+◌, Bool, true, false, cond, List, [], ◌∷◌, map, length, Some, None, Ok, Err, vec_items, Option, Result, Vec, nat_lt}
+use Rattle.std.specs.Prelude.{◌≡◌, ℕ, ◌+◌, cond, List, [], ◌∷◌, map, length, Some, None, Ok, Err, vec_items, Option, Result, Vec, nat_lt}
 use Rattle.std.specs.declared.alloc.Global.{Global}
 use Rattle.byteclass.specs.Class.{banned_byte}
 use Rattle.byteclass.specs.Words.{word_of}
@@ -10,7 +10,7 @@ use Rattle.cursor.specs.declared.place.Cursor.{Cursor}
 use Rattle.cursor.specs.declared.place.Fault.{Fault}
 use Rattle.cursor.specs.declared.place.Fault.TheVariants.{TooLong, Banned, LeftOut as LeftOutAt}
 use Rattle.cursor.specs.declared.place.Opens.TheVariants.{Nothing, Gap}
-use Rattle.parts.specs.Many.{Turn, repeat, each}
+use Rattle.parts.specs.Many.{repeat, each}
 use Rattle.parts.specs.Parts.{Entry, entry_of, Outs, outs_of, outputs, Ins, ins_of, inputs, set_to, block, skipped}
 use Rattle.parts.specs.declared.refusal.Refusal.{Refusal}
 use Rattle.parts.specs.declared.refusal.Refusal.TheVariants.{Faulty, Memory}

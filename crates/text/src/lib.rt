@@ -1,4 +1,6 @@
 // A manifest's text: from bytes to statements, one by one or all at once.
+#![tactic(auto)]
+
 pub mod kinds;
 pub mod reading;
 pub mod statement;

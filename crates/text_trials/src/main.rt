@@ -1,4 +1,5 @@
 // Texts with their outlines, which the file `stdout` beside this one holds as they should be.
+#![tactic(auto)]
 
 static TEXTS: [&[u8]; 117] = [
     b"",

@@ -1,3 +1,5 @@
+#![tactic(auto)]
+
 // Worked days on both hosts, and the published vectors of the hash. Expected values were worked out apart from this code.
 #[cfg(test)]
 mod hashes;

@@ -1,4 +1,4 @@
-use Rattle.std.proofs.Common.{◌≡◌, ℕ, subst, arith, rules}
+use Rattle.std.proofs.Common.{◌≡◌, ℕ, subst, arith}
 use Rattle.host.specs.Steps.{BreaksBelow}
 use Rattle.host.proofs.Pends.{quiet_more, none_pend}
 use Rattle.host.proofs.Since.{breaks_more, later_breaks, unwritten_kept}

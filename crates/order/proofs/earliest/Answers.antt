@@ -1,4 +1,4 @@
-use Rattle.std.proofs.Common.{arith, rules}
+use Rattle.std.proofs.Common.{arith}
 use Rattle.order.proofs.Turns.{so_far_law, so_far_place}
 use Rattle.order.proofs.earliest.Goals as goal
 

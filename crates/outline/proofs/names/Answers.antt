@@ -1,4 +1,4 @@
-use Rattle.std.proofs.Common.{arith, rules}
+use Rattle.std.proofs.Common.{arith}
 use Rattle.outline.proofs.Puts.{named_more, named_all}
 use Rattle.outline.proofs.names.Goals as goal
 

@@ -1,4 +1,4 @@
-use Rattle.std.proofs.Common.{arith, rules}
+use Rattle.std.proofs.Common.{arith}
 use Rattle.outline.proofs.Puts.{turn_puts, all_put, lines_more, lines_none}
 use Rattle.outline.proofs.put_lines.Goals as goal
 

@@ -1,4 +1,4 @@
-use Rattle.std.proofs.Common.{length, sym, arith, rules}
+use Rattle.std.proofs.Common.{length, sym, arith}
 use Rattle.std.proofs.lemmas.Bool.{eqb-true, eqb-false}
 use Rattle.outline.proofs.Puts.{then_puts, marked_none, marked_some}
 use Rattle.outline.proofs.put_marked.Goals as goal

@@ -1,4 +1,4 @@
-use Rattle.std.proofs.Common.{◌+◌, [], ◌∷◌, ◌++◌, drop, sym, ap, ◌∙◌, arith, rules}
+use Rattle.std.proofs.Common.{◌+◌, [], ◌∷◌, ◌++◌, drop, sym, ap, ◌∙◌, arith}
 use Rattle.outline.specs.Outline.{shown}
 use Rattle.outline.proofs.Puts.{turn_puts, all_put, shown_more, shown_none}
 use Rattle.outline.proofs.put_part.Goals as goal

@@ -1,4 +1,4 @@
-use Rattle.std.proofs.Common.{sym, ap, ◌∙◌, rules}
+use Rattle.std.proofs.Common.{rules}
 use Rattle.machine.proofs.Hashes.{fnv_next, fnv_end}
 use Rattle.machine.proofs.fnv.hashed.Goals as goal
 

@@ -1,4 +1,4 @@
-use Rattle.std.proofs.Common.{◌≡◌, ℕ, [], ◌∷◌, ◌++◌, length, replicate, None, Option, ap, ◌∙◌, arith, rules}
+use Rattle.std.proofs.Common.{◌≡◌, ℕ, [], ◌∷◌, ◌++◌, replicate, None, Option, ap, ◌∙◌, arith, rules}
 use Rattle.std.proofs.lemmas.List.{replicate_more}
 use Rattle.host.specs.declared.Stamped.{Stamped}
 use Rattle.machine.proofs.writes.blank.Goals as goal

@@ -1,4 +1,4 @@
-use Rattle.std.proofs.Common.{true, false, [], refl, rules}
+use Rattle.std.proofs.Common.{true, false, [], refl}
 use Rattle.std.proofs.lemmas.Result.{err_from_is_err_and}
 use Rattle.parts.specs.Parts.{skip_turn, passed}
 use Rattle.parts.proofs.Many.{begun, shorter, go_on, end_here, fail_here, known}

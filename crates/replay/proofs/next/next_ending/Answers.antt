@@ -1,5 +1,4 @@
-use Rattle.std.proofs.Common.{◌≡◌, ℕ, length, drop, sym, ap, ◌∙◌, arith}
-use Rattle.replay.specs.Turns.{next_from}
+use Rattle.std.proofs.Common.{◌≡◌, length, sym, ◌∙◌, arith}
 use Rattle.replay.proofs.Endings.{next_here, next_more, next_end}
 use Rattle.replay.proofs.next.next_ending.Goals as goal
 

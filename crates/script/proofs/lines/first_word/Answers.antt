@@ -1,4 +1,4 @@
-use Rattle.std.proofs.Common.{◌≡◌, ◌<◌, length, sym, ap, ◌∙◌, arith, rules}
+use Rattle.std.proofs.Common.{◌≡◌, ◌<◌, length, rules}
 use Rattle.script.specs.Texts.{words_of}
 use Rattle.script.proofs.Parts.{first_word, word_some, no_word}
 use Rattle.script.proofs.lines.first_word.Goals as goal

@@ -1,4 +1,4 @@
-use Rattle.std.proofs.Common.{◌≡◌, sym, ◌∙◌, arith, rules}
+use Rattle.std.proofs.Common.{sym, ◌∙◌, arith, rules}
 use Rattle.text.proofs.Banned.{banned_here, banned_later, banned_never}
 use Rattle.text.proofs.reading.first_banned.Goals as goal
 

@@ -1,5 +1,5 @@
 use Rattle.std.proofs.Common.{rules}
-use Rattle.cursor.proofs.Steps.{gap_piece, gap_over, gap_within}
+use Rattle.cursor.proofs.Steps.{gap_piece, gap_within}
 use Rattle.cursor.proofs.place.Cursor.skip_gap.Goals as goal
 
 pub advance-requires : goal.advance-requires

@@ -1,5 +1,5 @@
-use Rattle.std.proofs.Common.{arith, rules}
-use Rattle.cursor.proofs.Steps.{scan_dollar, scan_escape, scan_plain, escape_two}
+use Rattle.std.proofs.Common.{rules}
+use Rattle.cursor.proofs.Steps.{scan_dollar, scan_escape, scan_plain}
 use Rattle.cursor.proofs.place.Cursor.value.Goals as goal
 
 pub returns-then-not-is_escaped : goal.returns-then-not-is_escaped

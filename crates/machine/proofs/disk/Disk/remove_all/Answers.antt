@@ -1,5 +1,4 @@
-use Rattle.std.proofs.Common.{◌≡◌, vec_items, sym, ap, ◌∙◌}
-use Rattle.machine.specs.Disks.{volume}
+use Rattle.std.proofs.Common.{vec_items, sym, ◌∙◌}
 use Rattle.machine.proofs.Settles.{remove_more, remove_all}
 use Rattle.machine.proofs.disk.Disk.remove_all.Goals as goal
 

@@ -1,4 +1,4 @@
-use Rattle.std.proofs.Common.{ℕ, is_some, vec_items, Option, sym, refl, ap, ◌∙◌, arith, rules}
+use Rattle.std.proofs.Common.{is_some, vec_items, refl, ap, ◌∙◌, arith, rules}
 use Rattle.machine.specs.Machines.{state_of}
 use Rattle.machine.specs.Ends.{broken_by}
 use Rattle.machine.proofs.Finishes.{breaks_none, breaks_some, found_within}

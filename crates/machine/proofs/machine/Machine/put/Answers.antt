@@ -1,4 +1,4 @@
-use Rattle.std.proofs.Common.{vec_items, arith, rules}
+use Rattle.std.proofs.Common.{vec_items, arith}
 use Rattle.machine.specs.Disks.{volume}
 use Rattle.machine.proofs.Laws.{write_lawful, write_clock}
 use Rattle.machine.proofs.machine.Machine.put.Goals as goal

@@ -1,4 +1,4 @@
-use Rattle.std.proofs.Common.{◌≡◌, ℕ, Option, refl, ap, ◌∙◌}
+use Rattle.std.proofs.Common.{ℕ, Option, refl, ap, ◌∙◌}
 use Rattle.host.specs.declared.Refusal.{Refusal}
 use Rattle.host.specs.Calls.{command_of, started}
 use Rattle.host.specs.Refusals.{start_refusal, clock_answer}

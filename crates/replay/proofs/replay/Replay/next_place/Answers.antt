@@ -1,6 +1,5 @@
 use Rattle.std.proofs.Common.{◌≡◌, ◌<◌, length, ◌∙◌, arith, rules}
 use Rattle.std.proofs.lemmas.List.{length-set}
-use Rattle.machine.specs.Machines.{state_of}
 use Rattle.replay.specs.Meaning.{rep_of}
 use Rattle.replay.proofs.Table.{few_pending, table_more, table_all, next_is, first_is}
 use Rattle.replay.proofs.replay.Replay.next_place.Goals as goal

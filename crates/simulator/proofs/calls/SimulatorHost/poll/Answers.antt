@@ -1,4 +1,4 @@
-use Rattle.std.proofs.Common.{ℕ, length, sym, refl, ap, ◌∙◌, arith, rules}
+use Rattle.std.proofs.Common.{length, refl, ap, arith, rules}
 use Rattle.std.proofs.lemmas.List.{nil_from_length}
 use Rattle.machine.specs.Machines.{state_of}
 use Rattle.simulator.proofs.calls.SimulatorHost.poll.Goals as goal

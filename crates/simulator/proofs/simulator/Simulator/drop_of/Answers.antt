@@ -1,4 +1,4 @@
-use Rattle.std.proofs.Common.{◌≡◌, ◌<◌, ◌≤◌, length, vec_items, sym, refl, ap, ◌∙◌, arith, rules}
+use Rattle.std.proofs.Common.{◌<◌, length, vec_items, sym, refl, ap, ◌∙◌, arith, rules}
 use Rattle.host.specs.State.{State}
 use Rattle.machine.specs.Machines.{state_of}
 use Rattle.machine.proofs.Finishes.{breaks_none, found_within}

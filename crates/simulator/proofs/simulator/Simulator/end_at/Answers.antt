@@ -1,4 +1,4 @@
-use Rattle.std.proofs.Common.{◌≡◌, ◌<◌, length, Some, vec_items, sym, refl, ap, ◌∙◌, arith, rules}
+use Rattle.std.proofs.Common.{◌<◌, length, Some, vec_items, sym, refl, ap, ◌∙◌, arith, rules}
 use Rattle.host.specs.State.{State}
 use Rattle.host.proofs.Since.{later_poll}
 use Rattle.host.proofs.Keeps.{ends_small}

@@ -1,4 +1,4 @@
-use Rattle.std.proofs.Common.{◌≡◌, ℕ, ◌+◌, ◌≤◌, length, None, vec_items, Option, sym, refl, ap, ◌∙◌, arith, rules}
+use Rattle.std.proofs.Common.{ℕ, ◌+◌, ◌≤◌, length, vec_items, Option, sym, refl, ap, ◌∙◌, arith, rules}
 use Rattle.host.specs.declared.Refusal.{Refusal}
 use Rattle.host.specs.Calls.{command_of, started}
 use Rattle.host.specs.Refusals.{start_refusal, clock_answer}

@@ -1,4 +1,3 @@
-use Rattle.std.proofs.Common.{rules}
 use Rattle.simulator.proofs.Same.{same_simulator}
 use Rattle.simulator.proofs.simulator.Simulator.put.Goals as goal
 
