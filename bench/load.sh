@@ -1,9 +1,9 @@
 #!/usr/bin/env bash
 # Counts the instructions that `hetunawa load` and ninja take to read one manifest, by callgrind.
-#   bench/load.sh [PROGRAM]      PROGRAM is target/bin/hetunawa unless it is given
+#   bench/load.sh [PROGRAM]      PROGRAM is crates/hetunawa/out/hetunawa unless it is given
 set -eu
 here=$(cd "$(dirname "$0")/.." && pwd)
-program=${1:-$here/target/bin/hetunawa}
+program=${1:-$here/crates/hetunawa/out/hetunawa}
 
 missing=0
 lacks() {

@@ -1,5 +1,5 @@
 -- What a host means: its files, its clock, its pending commands; and what holds of them at every moment. Assumes nothing.
-use Rattle.std.specs.Prelude.{◌≡◌, ℕ, ◌+◌, ◌*◌, ◌<◌, ◌≤◌, Bool, false, ◌||◌, List, [], ◌∷◌, length, get_or, Some, None, Option, ◌==◌, ◌≢◌, slice_index_or}
+use Rattle.std.specs.Prelude.{◌≡◌, ℕ, ◌+◌, ◌*◌, ◌<◌, ◌≤◌, Bool, false, ◌||◌, List, [], ◌∷◌, length, Some, None, Option, ◌==◌, ◌≢◌, slice_index_or}
 use Rattle.host.specs.declared.Stamped.{Stamped}
 
 -- the files by number: absent, or a stamp and a mark
@@ -33,7 +33,7 @@ no_command = record { edge = 0; outputs = []; outcome = None }
 
 -- the edge of the command at a place
 abbrev pub edge_at : List Command → ℕ → ℕ
-edge_at cs k = (get_or cs k no_command).edge
+edge_at cs k = (slice_index_or cs k no_command).edge
 
 -- each stamp lies between 1 and the clock
 abbrev pub Stamps : Files → ℕ → Type 0

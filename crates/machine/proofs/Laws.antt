@@ -68,9 +68,9 @@ accepted n s e q rs os h =
 
 -- the command that is kept is the one that the host means
 pub told_started : (fs : Files) (t : ℕ) (ps : List Pending) (e : ℕ) (o : Outputs) (h : Option ℕ) (q rs os : List ℕ) → named o ≡ os → h ≡ hash_of fs q rs → told (record { edge = e; outputs = o; hash = h }) ≡ command_of hashes (state_from fs t ps) e q rs os
-told_started fs t ps e o h q rs os named_is hash-is =
+told_started fs t ps e o h q rs os named_is hash_is =
     let n : o.count ≡ length os = sym (length_named o) ∙ ap length named_is in
-    let k : option_map (marks_from o.count) h ≡ outcome_of hashes q (length os) (marks fs rs) = ap (λ (z : ℕ). option_map (marks_from z) h) n ∙ ap (option_map (marks_from (length os))) hash-is ∙ outcome_kept fs q rs (length os) in
+    let k : option_map (marks_from o.count) h ≡ outcome_of hashes q (length os) (marks fs rs) = ap (λ (z : ℕ). option_map (marks_from z) h) n ∙ ap (option_map (marks_from (length os))) hash_is ∙ outcome_kept fs q rs (length os) in
     λ i. record { edge = e; outputs = named_is i; outcome = k i }
 
 -- the clock has risen, and a command more is pending

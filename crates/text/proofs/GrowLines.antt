@@ -27,7 +27,7 @@ pick : (p q : Bool) (a b c : Out Lead) → p ≡ false → q ≡ true → b ≡ 
 pick p q a b c f t = rw (f, t) refl
 
 module _ (n : ℕ) (x : List ℕ) where
-  module _ {B : Type 0} (k : Lead → ℕ → List ℕ → Out B) (at-end : (j : ℕ) → Ends [] (k EndsLead j [])) (at_blank : (j : ℕ) → Ends [] (k Blank j [])) (at-remark : (j : ℕ) → Ends [] (k Remark j [])) (states : (l : Lead) (j b : ℕ) (v : List ℕ) → j + length (b ∷ v) ≡ n → State Over (k l) n x j (b ∷ v)) where
+  module _ {B : Type 0} (k : Lead → ℕ → List ℕ → Out B) (at_end : (j : ℕ) → Ends [] (k EndsLead j [])) (at_blank : (j : ℕ) → Ends [] (k Blank j [])) (at_remark : (j : ℕ) → Ends [] (k Remark j [])) (states : (l : Lead) (j b : ℕ) (v : List ℕ) → j + length (b ∷ v) ≡ n → State Over (k l) n x j (b ∷ v)) where
     after_blank : (j : ℕ) (v : List ℕ) → j + length v ≡ n → State Over (k Blank) n x j v
     after_blank j [] e = State.goes here
       where
@@ -40,7 +40,7 @@ module _ (n : ℕ) (x : List ℕ) where
     after_remark j [] e = State.goes here
       where
         here : (t : List ℕ) → Over t → Open (k Remark) j [] t
-        here [] Over.over = record { ending = []; ends = at-remark j }
+        here [] Over.over = record { ending = []; ends = at_remark j }
         here (_ ∷ _) p = elim p [ ]
     after_remark j (b ∷ v) e = states Remark j b v e
 
@@ -48,7 +48,7 @@ module _ (n : ℕ) (x : List ℕ) where
     comment_state i [] e = State.goes here
       where
         here : (t : List ℕ) → Over t → Open (λ m s. and_then (comment m s) (λ _ j r. k Remark j r)) i [] t
-        here [] Over.over = record { ending = 10 ∷ []; ends = at-remark (i + 1) }
+        here [] Over.over = record { ending = 10 ∷ []; ends = at_remark (i + 1) }
         here (_ ∷ _) p = elim p [ ]
     comment_state i (b ∷ u) e =
         test (eqb b 10)
@@ -93,7 +93,7 @@ module _ (n : ℕ) (x : List ℕ) where
     lead_state i [] e = State.goes here
       where
         here : (t : List ℕ) → Over t → Open (λ m s. and_then (lead m s) k) i [] t
-        here [] Over.over = record { ending = []; ends = at-end i }
+        here [] Over.over = record { ending = []; ends = at_end i }
         here (_ ∷ _) p = elim p [ ]
     lead_state i (b ∷ u) e =
         test (eqb b 32)
