@@ -1,0 +1,148 @@
+// What the lines are put together from: numbers and texts.
+ghost use Rattle.std.specs.Prelude.{◌≡◌, ℕ, ◌%◌, Bool, List, [], ◌∷◌, decimal};
+ghost use Rattle.listing.specs.Listing.{hex_digit, hex2, hex8, plain_byte, escaped, shown, every, plain_len, spaced, numbers, Puts};
+
+use std::alloc::AllocError;
+use std::mem;
+
+// Puts bytes as they are.
+pub(crate) fn put(out: &mut Vec<u8>, part: &[u8]) -> Result<(), AllocError>
+    ensures { Puts result out.old out.new part.now }
+{
+    out.extend_from_slice(part)
+}
+
+// Puts many bytes as they are, into a vector that nothing else can reach, so that many are moved at a time.
+fn put_long(out: &mut Vec<u8>, part: &[u8]) -> Result<(), AllocError>
+    ensures { Puts result out.old out.new part.now }
+{
+    let mut all = mem::replace(out, Vec::new(*out.allocator()));
+    let done = all.extend_from_slice(part);
+    *out = all;
+    done
+}
+
+// Puts a number in decimal digits.
+pub(crate) fn put_number(out: &mut Vec<u8>, n: usize) -> Result<(), AllocError>
+    ensures { Puts result out.old out.new (decimal n) }
+{
+    if n < 10 {
+        return put(out, &[b'0' + n as u8]);
+    }
+    let front = n / 10;
+    let last = b'0' + (n % 10) as u8;
+    if front < 10 {
+        return put(out, &[b'0' + front as u8, last]);
+    }
+    put_number(out, front / 10)?;
+    put(out, &[b'0' + (front % 10) as u8, last])
+}
+
+// Puts numbers, each after a space.
+pub(crate) fn put_numbers(out: &mut Vec<u8>, all: &[usize]) -> Result<(), AllocError>
+    ensures { Puts result out.old out.new (numbers all.now) }
+{
+    for n in all {
+        out.push(b' ')?;
+        put_number(out, *n)?;
+    }
+    Ok(())
+}
+
+// The last hexadecimal digit of a number.
+fn hex_digit(n: u32) -> u8
+    ensures { result ≡ hex_digit (n % 16) }
+{
+    let d = (n % 16) as u8;
+    if d < 10 { b'0' + d } else { b'a' - 10 + d }
+}
+
+// Puts a number in eight hexadecimal digits.
+pub(crate) fn put_hex(out: &mut Vec<u8>, n: u32) -> Result<(), AllocError>
+    ensures { Puts result out.old out.new (hex8 n) }
+{
+    put_hex_byte(out, n / 0x100_0000)?;
+    put_hex_byte(out, n / 0x1_0000)?;
+    put_hex_byte(out, n / 0x100)?;
+    put_hex_byte(out, n)
+}
+
+// Puts the last two hexadecimal digits of a number.
+fn put_hex_byte(out: &mut Vec<u8>, n: u32) -> Result<(), AllocError>
+    ensures { Puts result out.old out.new (hex2 n) }
+{
+    out.push(hex_digit(n / 16))?;
+    out.push(hex_digit(n))?;
+    Ok(())
+}
+
+// Whether a byte stands for itself.
+fn is_plain(b: u8) -> bool
+    ensures { result ≡ plain_byte b }
+{
+    32 <= b && (b <= 126 && b != b'\\')
+}
+
+// How many plain bytes a text begins with.
+fn plain_len(text: &[u8]) -> usize
+    ensures { result ≡ plain_len text.now }
+{
+    for (i, b) in text.iter().enumerate() {
+        if !is_plain(*b) {
+            return i;
+        }
+    }
+    text.len()
+}
+
+// Puts a byte that does not stand for itself.
+fn put_escaped(out: &mut Vec<u8>, b: u8) -> Result<(), AllocError>
+    ensures { Puts result out.old out.new (escaped b) }
+{
+    if b == b'\\' {
+        return put(out, b"\\\\");
+    }
+    put(out, b"\\x")?;
+    put_hex_byte(out, u32::from(b))
+}
+
+// Whether each byte stands for itself. All are looked at, so that many can be at a time.
+fn is_all_plain(text: &[u8]) -> bool
+    ensures { result ≡ every plain_byte text.now }
+{
+    let mut all = true;
+    for b in text {
+        all &= is_plain(*b);
+    }
+    all
+}
+
+// Puts a text, each run of plain bytes at once.
+fn put_shown(out: &mut Vec<u8>, text: &[u8]) -> Result<(), AllocError>
+    ensures { Puts result out.old out.new (shown text.now) }
+{
+    let mut rest = text;
+    loop {
+        let n = plain_len(rest);
+        put_long(out, &rest[0..n])?;
+        if n >= rest.len() {
+            return Ok(());
+        }
+        put_escaped(out, rest[n])?;
+        rest = &rest[n + 1..];
+    }
+}
+
+// Puts a text after a space, and nothing for an empty one.
+pub(crate) fn put_text(out: &mut Vec<u8>, text: &[u8]) -> Result<(), AllocError>
+    ensures { Puts result out.old out.new (spaced text.now) }
+{
+    if text.len() == 0 {
+        return Ok(());
+    }
+    out.push(b' ')?;
+    if is_all_plain(text) {
+        return put_long(out, text);
+    }
+    put_shown(out, text)
+}
