@@ -1,0 +1,156 @@
+-- What the calls for one edge come to: the values that it gets, its pool, and its question.
+use Rattle.std.proofs.Common.{◌≡◌, ℕ, zero, suc, ◌<◌, ◌==◌, Bool, true, false, not, codes, List, [], ◌∷◌, map, length, get_or, set, Option, sym, refl, ap, ◌∙◌, subst, arith}
+use Rattle.std.proofs.lemmas.List.{get_or-map, get_or-set_same, map-set}
+use Rattle.std.proofs.lemmas.Bool.Decides.{Decides-eqb}
+use Rattle.graph.specs.declared.kinds.Edge.{Edge}
+use Rattle.graph.specs.declared.kinds.Pool.{Pool}
+use Rattle.graph.specs.Data.{FileData, PoolData, pool_of, EdgeData, edge_of, no_edge, edge_at}
+use Rattle.graph.specs.Question.{question_of}
+use Rattle.store.specs.declared.wrong.Stop.{Stop}
+use Rattle.store.specs.declared.wrong.Stop.TheVariants.{Because, Memory}
+use Rattle.store.specs.Try.{Try, got, wrong, and_try, Stops}
+use Rattle.expansion.specs.Model.{TextsData, ask}
+use Rattle.draft.specs.State.{State}
+use Rattle.draft.specs.Statements.{pool_at}
+use Rattle.reader.specs.Values.{paths_at, pool_found, pool_named, given, value_for, with_values, valued, with_question, with_edge_at, question_for, asked}
+use Rattle.reader.specs.Given.{ValuesData, values_for}
+
+-- a pool that a text names which is not empty
+pub named_found : (ps : List PoolData) (n : List ℕ) (b : Bool) → b ≡ (length n == 0) → b ≡ false → (o : Option ℕ) → o ≡ pool_at ps n → pool_found o ≡ pool_named ps n
+named_found ps [] b e f o h = let z : ◌≡◌ {A = Bool} true false = sym e ∙ f in absurd (cc)
+named_found ps (x ∷ n) b e f o h = ap pool_found h
+
+-- a pool that is looked for in a slice of all pools
+pub named_seen : (ps qs : List Pool) (n m : List ℕ) → qs ≡ ps → m ≡ n → pool_named (map pool_of qs) m ≡ pool_named (map pool_of ps) n
+named_seen ps qs n m a b = ap (λ x. pool_named (map pool_of x) m) a ∙ ap (pool_named (map pool_of ps)) b
+
+pub given_is : (t : List ℕ) (b : Bool) → b ≡ (length t == 0) → not b ≡ given t
+given_is [] b e = ap not e
+given_is (x ∷ t) true e = let h : suc (length t) ≡ 0 = (Decides-eqb (suc (length t)) 0).0 (sym e) in absurd (omega arith)
+given_is (x ∷ t) false e = refl
+
+-- a step that gave a, and those after it
+pub given_on : {A B : Type 0} (a : A) (o : Try A) (f : A → Try B) → got a ≡ o → f a ≡ and_try o f
+given_on a o f e = ap (λ z. and_try z f) e
+
+pub stops_on : {A B : Type 0} (s : Stop) (o : Try A) (f : A → Try B) → Stops s o → Stops s (and_try o f)
+stops_on (Because w) o f h = ap (λ z. and_try z f) h
+stops_on Memory o f h = tt
+
+pub stops_past : {A B : Type 0} (s : Stop) (a : A) (o : Try A) (f : A → Try B) → got a ≡ o → Stops s (f a) → Stops s (and_try o f)
+stops_past s a o f e h = subst (Stops s) (given_on a o f e) h
+
+and_then_try : {A B C : Type 0} (o : Try A) (f : A → Try B) (g : B → Try C) → and_try (and_try o f) g ≡ and_try o (λ x. and_try (f x) g)
+and_then_try (got a) f g = refl
+and_then_try (wrong w) f g = refl
+
+-- five steps, the last of which goes by the third
+module _ {A B C D E F : Type 0} (v1 : Try A) (v2 : Try B) (v3 : Try C) (v4 : Try D) (v5 : C → Try E) (make : A → B → D → E → F) where
+  abbrev pub chain : Try F
+  chain = and_try v1 (λ c. and_try v2 (λ d. and_try v3 (λ p. and_try v4 (λ r. and_try (v5 p) (λ k. got (make c d r k))))))
+
+  pub second : (s : Stop) (c : A) → got c ≡ v1 → Stops s v2 → Stops s chain
+  second s c e1 h = stops_past s c v1 _ e1 (stops_on s v2 _ h)
+
+  pub third : (s : Stop) (c : A) (d : B) → got c ≡ v1 → got d ≡ v2 → Stops s v3 → Stops s chain
+  third s c d e1 e2 h = stops_past s c v1 _ e1 (stops_past s d v2 _ e2 (stops_on s v3 _ h))
+
+  pub fourth : (s : Stop) (c : A) (d : B) (p : C) → got c ≡ v1 → got d ≡ v2 → got p ≡ v3 → Stops s v4 → Stops s chain
+  fourth s c d p e1 e2 e3 h = stops_past s c v1 _ e1 (stops_past s d v2 _ e2 (stops_past s p v3 _ e3 (stops_on s v4 _ h)))
+
+  pub fifth : (s : Stop) (c : A) (d : B) (p : C) (r : D) → got c ≡ v1 → got d ≡ v2 → got p ≡ v3 → got r ≡ v4 → Stops s (v5 p) → Stops s chain
+  fifth s c d p r e1 e2 e3 e4 h =
+      stops_past s c v1 _ e1 (stops_past s d v2 _ e2 (stops_past s p v3 _ e3 (stops_past s r v4 _ e4 (stops_on s (v5 p) _ h))))
+
+  pub all_five : (c : A) (d : B) (p : C) (r : D) (k : E) → got c ≡ v1 → got d ≡ v2 → got p ≡ v3 → got r ≡ v4 → got k ≡ v5 p → got (make c d r k) ≡ chain
+  all_five c d p r k e1 e2 e3 e4 e5 =
+      given_on k (v5 p) (λ z. got (make c d r z)) e5
+      ∙ given_on r v4 (λ y. and_try (v5 p) (λ z. got (make c d y z))) e4
+      ∙ given_on p v3 (λ x. and_try v4 (λ y. and_try (v5 x) (λ z. got (make c d y z)))) e3
+      ∙ given_on d v2 (λ w. and_try v3 (λ x. and_try v4 (λ y. and_try (v5 x) (λ z. got (make c w y z))))) e2
+      ∙ given_on c v1 (λ v. and_try v2 (λ w. and_try v3 (λ x. and_try v4 (λ y. and_try (v5 x) (λ z. got (make v w y z)))))) e1
+
+-- the five steps, and one that goes by what they made
+pub chain_then : {A B C D E F G : Type 0} (v1 : Try A) (v2 : Try B) (v3 : Try C) (v4 : Try D) (v5 : C → Try E) (make : A → B → D → E → F) (g : F → G) → and_try (chain v1 v2 v3 v4 v5 make) (λ x. got (g x)) ≡ chain v1 v2 v3 v4 v5 (λ c d r k. g (make c d r k))
+chain_then (wrong w) v2 v3 v4 v5 make g = refl
+chain_then (got c) (wrong w) v3 v4 v5 make g = refl
+chain_then (got c) (got d) (wrong w) v4 v5 make g = refl
+chain_then (got c) (got d) (got p) (wrong w) v5 make g = refl
+chain_then (got c) (got d) (got p) (got r) v5 make g = and_then_try (v5 p) (λ k. got (make c d r k)) (λ x. got (g x))
+
+set_twice : {A : Type 0} (xs : List A) (i : ℕ) (a b : A) → set (set xs i a) i b ≡ set xs i b
+set_twice [] i a b = refl
+set_twice (x ∷ xs) zero a b = refl
+set_twice (x ∷ xs) (suc i) a b = ap (λ ys. x ∷ ys) (set_twice xs i a b)
+
+-- an edge that was changed in a list
+module _ (es : List Edge) (e : ℕ) (l : e < length es) (old : Edge) (r : old ≡ get_or es e old) where
+  pub edge_there : edge_of old ≡ edge_at (map edge_of es) e
+  edge_there = ap edge_of r ∙ sym (get_or-map edge_of es e old no_edge l)
+
+  pub edge_changed : (new : Edge) (f : EdgeData → EdgeData) → edge_of new ≡ f (edge_of old) → map edge_of (set es e new) ≡ set (map edge_of es) e (f (edge_at (map edge_of es) e))
+  edge_changed new f h = map-set edge_of es e new ∙ ap (set (map edge_of es) e) (h ∙ ap f edge_there)
+
+  -- its question taken out, and another put in
+  module _ (t new mid ix1 ix2 : Edge) (q : List ℕ) (at : edge_of t ≡ with_question (edge_of old) []) (rm : mid ≡ get_or (set es e t) e mid) (r1 : ix1 ≡ get_or (set es e t) e ix1) (r2 : ix2 ≡ get_or (set es e t) e ix2) where
+    taken : (x : Edge) → x ≡ get_or (set es e t) e x → edge_of x ≡ with_question (edge_at (map edge_of es) e) []
+    taken x h = ap edge_of (h ∙ get_or-set_same es e t x l) ∙ at ∙ ap (λ y. with_question y []) edge_there
+
+    pub asked_edges : edge_of new ≡ with_question (edge_of mid) q → map edge_of (set (set es e t) e new) ≡ set (map edge_of es) e (with_question (edge_at (map edge_of es) e) q)
+    asked_edges h =
+        ap (map edge_of) (set_twice es e t new) ∙ map-set edge_of es e new
+        ∙ ap (set (map edge_of es) e) (h ∙ ap (λ y. with_question y q) (taken mid rm))
+
+    pub asked_text : (fs : List FileData) (q0 rs os : List ℕ) → q0 ≡ (edge_of old).question → rs ≡ (edge_of ix1).reads → os ≡ (edge_of ix2).outputs → q ≡ question_of q0 (paths_at fs rs) (paths_at fs os) → q ≡ question_for fs (edge_at (map edge_of es) e)
+    asked_text fs q0 rs os a b c h =
+        h
+        ∙ ap (λ z. question_of z (paths_at fs rs) (paths_at fs os)) (a ∙ ap (λ x. x.question) edge_there)
+        ∙ ap (λ z. question_of (edge_at (map edge_of es) e).question (paths_at fs z) (paths_at fs os)) (b ∙ ap (λ x. x.reads) (taken ix1 r1))
+        ∙ ap (λ z. question_of (edge_at (map edge_of es) e).question (paths_at fs (edge_at (map edge_of es) e).reads) (paths_at fs z)) (c ∙ ap (λ x. x.outputs) (taken ix2 r2))
+
+-- a state with its question asked
+pub asked_done : (st : State) (e : ℕ) (d : TextsData) (q : List ℕ) (es : List EdgeData) → q ≡ question_for st.files (edge_at st.edges e) → got d ≡ ask st.texts q → es ≡ set st.edges e (with_question (edge_at st.edges e) q) → got (record { texts = d; rules = st.rules; pools = st.pools; files = st.files; edges = es; chosen = st.chosen }) ≡ asked st e
+asked_done st e d q es a b c =
+    ap (λ x. got (record { texts = d; rules = st.rules; pools = st.pools; files = st.files; edges = x; chosen = st.chosen })) (c ∙ ap (λ z. set st.edges e (with_question (edge_at st.edges e) z)) a)
+    ∙ given_on d _ (λ t. got (with_edge_at st t e (with_question (edge_at st.edges e) (question_for st.files (edge_at st.edges e))))) (b ∙ ap (ask st.texts) a)
+
+-- the values of an edge, one after the other
+module _ (st : State) (e : ℕ) (s : Stop) (c d p r : List ℕ) (e1 : got c ≡ value_for st e (codes "command")) where
+  abbrev made : List ℕ → List ℕ → List ℕ → Option ℕ → ValuesData
+  made x y z k = record { command = x; description = y; pool = k; restat = given z }
+
+  pub values_second : Stops s (value_for st e (codes "description")) → Stops s (values_for st e)
+  values_second h = second (value_for st e (codes "command")) (value_for st e (codes "description")) (value_for st e (codes "pool")) (value_for st e (codes "restat")) (pool_named st.pools) made s c e1 h
+
+  module _ (e2 : got d ≡ value_for st e (codes "description")) where
+    pub values_third : Stops s (value_for st e (codes "pool")) → Stops s (values_for st e)
+    values_third h = third (value_for st e (codes "command")) (value_for st e (codes "description")) (value_for st e (codes "pool")) (value_for st e (codes "restat")) (pool_named st.pools) made s c d e1 e2 h
+
+    module _ (e3 : got p ≡ value_for st e (codes "pool")) where
+      pub values_fourth : Stops s (value_for st e (codes "restat")) → Stops s (values_for st e)
+      values_fourth h = fourth (value_for st e (codes "command")) (value_for st e (codes "description")) (value_for st e (codes "pool")) (value_for st e (codes "restat")) (pool_named st.pools) made s c d p e1 e2 e3 h
+
+      module _ (e4 : got r ≡ value_for st e (codes "restat")) where
+        pub values_fifth : (o : Try (Option ℕ)) → o ≡ pool_named st.pools p → Stops s o → Stops s (values_for st e)
+        values_fifth o q h = fifth (value_for st e (codes "command")) (value_for st e (codes "description")) (value_for st e (codes "pool")) (value_for st e (codes "restat")) (pool_named st.pools) made s c d p r e1 e2 e3 e4 (subst (Stops s) q h)
+
+-- all of them
+pub values_all : (st : State) (e : ℕ) (c d p r : List ℕ) (k : Option ℕ) (b : Bool) → got c ≡ value_for st e (codes "command") → got d ≡ value_for st e (codes "description") → got p ≡ value_for st e (codes "pool") → got r ≡ value_for st e (codes "restat") → got k ≡ pool_named st.pools p → b ≡ given r → got (record { command = c; description = d; pool = k; restat = b }) ≡ values_for st e
+values_all st e c d p r k b e1 e2 e3 e4 e5 h =
+    ap (λ x. got (record { command = c; description = d; pool = k; restat = x })) h
+    ∙ all_five (value_for st e (codes "command")) (value_for st e (codes "description")) (value_for st e (codes "pool")) (value_for st e (codes "restat")) (pool_named st.pools) (λ x y z w. record { command = x; description = y; pool = w; restat = given z }) c d p r k e1 e2 e3 e4 e5
+
+pub valued_then : (st : State) (e : ℕ) → and_try (values_for st e) (λ v. got (with_edge_at st st.texts e (with_values (edge_at st.edges e) v.command v.description v.pool v.restat))) ≡ valued st e
+valued_then st e =
+    chain_then (value_for st e (codes "command")) (value_for st e (codes "description")) (value_for st e (codes "pool")) (value_for st e (codes "restat")) (pool_named st.pools) (λ x y z w. record { command = x; description = y; pool = w; restat = given z })
+    (λ v. with_edge_at st st.texts e (with_values (edge_at st.edges e) v.command v.description v.pool v.restat))
+
+-- a state whose edge has got its values
+pub valued_done : (st : State) (e : ℕ) (v : ValuesData) (es : List EdgeData) → got v ≡ values_for st e → es ≡ set st.edges e (with_values (edge_at st.edges e) v.command v.description v.pool v.restat) → got (record { texts = st.texts; rules = st.rules; pools = st.pools; files = st.files; edges = es; chosen = st.chosen }) ≡ valued st e
+valued_done st e v es h a =
+    ap (λ x. got (record { texts = st.texts; rules = st.rules; pools = st.pools; files = st.files; edges = x; chosen = st.chosen })) a
+    ∙ given_on v (values_for st e) (λ w. got (with_edge_at st st.texts e (with_values (edge_at st.edges e) w.command w.description w.pool w.restat))) h
+    ∙ valued_then st e
+
+pub valued_stops : (st : State) (e : ℕ) (s : Stop) → Stops s (values_for st e) → Stops s (valued st e)
+valued_stops st e s h = subst (Stops s) (valued_then st e) (stops_on s (values_for st e) _ h)

@@ -1,0 +1,7 @@
+use Rattle.reader.proofs.Joins.{asks_all}
+use Rattle.reader.proofs.paths.put_question.Goals as goal
+
+pub returns : goal.returns
+returns c =
+    asks_all c.put_ended-2.result _ c.push.new.self c.put_ended.new.out c.push-2.new.self _ _ _
+    c.in_ok-push.ensures.items c.in_ok-put_ended.ensures c.in_ok-push-2.ensures.items c.put_ended-2.ensures
