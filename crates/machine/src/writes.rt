@@ -86,6 +86,7 @@ impl Disk {
     }
 
     // The marks of a hash come into the outputs, in their order.
+    #[tactic(auto, using(crate::proofs::Settles::settle_more, crate::proofs::Settles::settle_all))]
     pub(crate) fn settle_all(&mut self, outputs: &[u8], hash: u32, rewrites: bool)
         requires few { length outputs.now ≤ 8 }
         requires clock { self.old.clock ≤ 4000000513 }
