@@ -41,12 +41,8 @@ pub(crate) fn has_stray(files: &[usize]) -> bool
 pub(crate) fn has_repeat(files: &[usize]) -> bool
     ensures { result ≡ repeats files.now }
 {
-    let mut rest = files;
-    while let Some((file, later)) = rest.split_first() {
-        if later.contains(file) {
-            return true;
-        }
-        rest = later;
-    }
-    false
+    files
+        .iter()
+        .enumerate()
+        .any(|(place, file)| files[place + 1..].contains(file))
 }
