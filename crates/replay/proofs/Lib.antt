@@ -1,3 +1,1 @@
-pub mod Same
 pub mod Endings
-pub mod Table

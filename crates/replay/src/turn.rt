@@ -6,7 +6,7 @@ ghost use Rattle.std.proofs.Common.{rules};
 use order::Ordered;
 
 // The place of the edge's next ending among those left; past the last where it has none.
-#[derive(Clone, Copy)]
+#[derive(Clone, Copy, Default)]
 pub struct Turn {
     pub place: usize,
     pub edge: usize,
