@@ -13,7 +13,7 @@ ghost use Rattle.machine.proofs.Laws.{machine_lawful};
 ghost use Rattle.machine.proofs.Outcomes.{hashes_each};
 
 use crate::replay::{CAPACITY, Replay};
-use host::{Ended, FileView, Host, Refusal, Stamped};
+use host::{Ended, FileView, Host, Job, Refusal, Stamped};
 
 impl FileView for Replay {
     ghost files = { λ s. (host_of s).files };
@@ -26,7 +26,7 @@ impl FileView for Replay {
 impl Host for Replay {
     const CAPACITY: usize = CAPACITY;
 
-    ghost capacity = { 8 };
+    ghost CAPACITY = { 8 };
 
     ghost state = { λ s. host_of s };
 
@@ -40,27 +40,17 @@ impl Host for Replay {
 
     ghost each = { hashes_each };
 
-    fn capacity_of() -> usize {
-        Self::CAPACITY
-    }
-
     fn clock(&self) -> u32 {
         self.machine.clock()
     }
 
-    fn start(
-        &mut self,
-        edge: usize,
-        question: &[u8],
-        reads: &[usize],
-        outputs: &[usize],
-    ) -> Result<u32, Refusal>
-        ensures answer { result ≡ start_answer 8 (host_of self.old) edge question.now reads.now outputs.now }
-        ensures after { host_of self.new ≡ after_start 8 hashes (host_of self.old) edge question.now reads.now outputs.now }
+    fn start(&mut self, job: Job<'_>) -> Result<u32, Refusal>
+        ensures answer { result ≡ start_answer 8 (host_of self.old) job.entry.edge job.entry.question.now job.entry.reads.now job.entry.outputs.now }
+        ensures after { host_of self.new ≡ after_start 8 hashes (host_of self.old) job.entry.edge job.entry.question.now job.entry.reads.now job.entry.outputs.now }
         ensures left { (rep_of self.new).left ≡ (rep_of self.old).left }
         ensures kept { is_ok result ≡ false → self.new ≡ self.old }
     {
-        self.machine.start(edge, question, reads, outputs)
+        self.machine.start(job)
     }
 
     fn poll(&mut self) -> Option<Ended>

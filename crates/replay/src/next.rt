@@ -35,17 +35,25 @@ impl Replay {
     }
 
     // The place of the command that ends next.
+    #[tactic(auto, using(crate::proofs::Order::first_place, crate::proofs::Order::first_law))]
     pub(crate) fn next_place(&self) -> Option<usize>
         ensures place { result ≡ next_place (rep_of self.now) }
         ensures first { MatchOption result (length (host_of self.now).pending ≡ 0) (λ k. Earliest by_place (turns (rep_of self.now)) k) }
     {
-        let mut turns = ArrayVec::<Turn, CAPACITY>::new();
+        earliest(self.turns().as_slice())
+    }
+
+    // The turns of the pending commands.
+    fn turns(&self) -> ArrayVec<Turn, CAPACITY>
+        ensures { result.items ≡ turns (rep_of self.now) }
+    {
+        let mut turns = ArrayVec::new();
         for place in 0..self.machine.pending_len() {
             if let Some(edge) = self.machine.edge_at(place) {
                 turns.push(self.turn_of(edge));
             }
         }
-        earliest(turns.as_slice())
+        turns
     }
 
     // The turn of an edge: the place of its next ending; past the last where it has none.

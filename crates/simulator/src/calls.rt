@@ -4,7 +4,7 @@ ghost use Rattle.std.proofs.Common.{subst, rules, arith};
 ghost use Rattle.host.specs.Calls.{start_answer, after_start, write_answer, after_write, Polls, Ends, BreaksOff};
 ghost use Rattle.machine.specs.Fnv.{hashes};
 ghost use Rattle.machine.specs.Ends.{ending, break_answer, place_of};
-ghost use Rattle.order.specs.Earliest.{earliest_place};
+ghost use Rattle.order.specs.Earliest.{Earliest, earliest_place};
 ghost use Rattle.simulator.specs.Dues.{by_due, no_due};
 ghost use Rattle.simulator.specs.Sims.{sim_after_start, sim_ended, sim_polled, sim_answer, sim_broken, sim_after_write, DueFirst};
 ghost use Rattle.simulator.specs.Simulators.{sim_of, host_of};
@@ -15,11 +15,20 @@ ghost use Rattle.machine.proofs.Outcomes.{hashes_each};
 
 use crate::due::Due;
 use crate::simulator::{CAPACITY, Simulator};
-use host::{Ended, FileView, Host, Refusal, Stamped};
+use host::{Ended, FileView, Host, Job, Refusal, Stamped};
 use machine::command_len;
 use order::earliest;
 
-const LAST_EDGE: usize = 127;
+impl Simulator {
+    // The place of the command that is due first.
+    #[tactic(auto, using(crate::proofs::Order::first_place, crate::proofs::Order::first_law))]
+    fn first_due(&self) -> Option<usize>
+        ensures place { result ≡ earliest_place by_due (sim_of self.now).dues }
+        ensures first { MatchOption result (length (sim_of self.now).dues ≡ 0) (λ k. Earliest by_due (sim_of self.now).dues k) }
+    {
+        earliest(&self.dues)
+    }
+}
 
 impl FileView for Simulator {
     ghost files = { λ s. (host_of s).files };
@@ -32,7 +41,7 @@ impl FileView for Simulator {
 impl Host for Simulator {
     const CAPACITY: usize = CAPACITY;
 
-    ghost capacity = { 16 };
+    ghost CAPACITY = { 16 };
 
     ghost state = { λ s. host_of s };
 
@@ -46,29 +55,22 @@ impl Host for Simulator {
 
     ghost each = { hashes_each };
 
-    fn capacity_of() -> usize {
-        Self::CAPACITY
-    }
-
     fn clock(&self) -> u32 {
         self.machine.clock()
     }
 
-    fn start(
-        &mut self,
-        edge: usize,
-        question: &[u8],
-        reads: &[usize],
-        outputs: &[usize],
-    ) -> Result<u32, Refusal>
-        ensures answer { result ≡ start_answer 16 (host_of self.old) edge question.now reads.now outputs.now }
-        ensures after { host_of self.new ≡ after_start 16 hashes (host_of self.old) edge question.now reads.now outputs.now }
-        ensures exact { sim_of self.new ≡ sim_after_start (sim_of self.old) edge question.now reads.now outputs.now }
+    fn start(&mut self, job: Job<'_>) -> Result<u32, Refusal>
+        ensures answer { result ≡ start_answer 16 (host_of self.old) job.entry.edge job.entry.question.now job.entry.reads.now job.entry.outputs.now }
+        ensures after { host_of self.new ≡ after_start 16 hashes (host_of self.old) job.entry.edge job.entry.question.now job.entry.reads.now job.entry.outputs.now }
+        ensures exact { sim_of self.new ≡ sim_after_start (sim_of self.old) job.entry.edge job.entry.question.now job.entry.reads.now job.entry.outputs.now }
         ensures kept { is_ok result ≡ false → self.new ≡ self.old }
     {
-        let clock = self.machine.start(edge, question, reads, outputs)?;
-        let tick = self.tick + command_len(question) as u64;
-        self.dues.push_reserved(Due { tick, edge });
+        let clock = self.machine.start(job)?;
+        let tick = self.tick + command_len(job.question) as u64;
+        self.dues.push_reserved(Due {
+            tick,
+            edge: job.edge,
+        });
         Ok(clock)
     }
 
@@ -79,7 +81,7 @@ impl Host for Simulator {
         ensures exact { sim_of self.new ≡ sim_polled (sim_of self.old) (earliest_place by_due (sim_of self.old).dues) }
         ensures first { IfSome result (λ e. DueFirst (sim_of self.old) e (sim_of self.new)) }
     {
-        let place = earliest(&self.dues)?;
+        let place = self.first_due()?;
         self.tick = self.dues.remove(place).tick;
         self.machine.finish(place, false)
     }
@@ -90,10 +92,12 @@ impl Host for Simulator {
         ensures exact { sim_of self.new ≡ sim_broken (sim_of self.old) edge }
         ensures kept { is_ok result ≡ false → self.new ≡ self.old }
     {
-        if let Some(place) = self.machine.place_of(edge) {
+        let place = self.machine.place_of(edge);
+        let was_pending = self.machine.break_off(edge)?;
+        if let Some(place) = place {
             self.dues.remove(place);
         }
-        self.machine.break_off(edge)
+        Ok(was_pending)
     }
 
     fn outside_write(&mut self, file: usize, mark: Option<u32>) -> Result<u32, Refusal>
