@@ -1,4 +1,4 @@
-use Rattle.std.proofs.Common.{◌≡◌, ◌<◌, length, vec_items, sym, refl, ◌∙◌, arith, rules}
+use Rattle.std.proofs.Common.{◌≡◌, ◌<◌, length, sym, refl, ◌∙◌, arith, rules}
 use Rattle.std.specs.List.{remove}
 use Rattle.machine.specs.Machines.{state_of}
 use Rattle.simulator.specs.Simulators.{host_of}
