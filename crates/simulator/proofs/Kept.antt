@@ -74,11 +74,6 @@ drop_timed s e k b h ds answer at after gone =
     let host = drop_state (host_of s) e k h (small_edge (host_of s) e b answer) at after in
     timed_gone (sim_of s) k h s.tick ds (omega (arith, found_within (host_of s) e k at, paired_length (sim_of s) (timed_of s))) (ap (λ (z : State). z.pending) host) gone (omega (arith, ap (λ (z : State). z.clock) host)) s.current (timed_of s)
 
-pub end_small : (s : Simulator) (k : ℕ) (P Q : Type 0) (o : Option Ended) (h : State) → k < length (host_of s).pending → o ≡ ending_at (host_of s) k → MatchOption o P (λ e. Ends (host_of s) e h) → MatchOption o Q (λ e. e.edge < 128)
-end_small s k P Q o h within answer ends =
-    let small = ends_small (capacity_of s.machine) (host_of s) (ending (host_of s) k) h (machine_lawful s.machine) (finish_ends P o (host_of s) h k within answer ends) in
-    subst (λ (z : Option Ended). MatchOption z Q (λ e. e.edge < 128)) (sym (answer ∙ ending_is (host_of s) k within)) small
-
 pub end_first : (s : Simulator) (k : ℕ) (o : Option Ended) (t : Sim) (d : Due) → k < length (vec_items s.dues) → k < length (host_of s).pending → o ≡ ending_at (host_of s) k → Earliest by_due (vec_items s.dues) k →
     d ≡ get_or (vec_items s.dues) k d → t.tick ≡ d.tick → IfSome o (λ e. DueFirst (sim_of s) e t)
 end_first s k o t d due within answer first is tick =
