@@ -9,14 +9,14 @@ use Rattle.host.specs.declared.Refusal.TheVariants.{BadCall}
 use Rattle.host.specs.Calls.{started, start_answer, after_start, command_of, Ends}
 use Rattle.host.specs.Refusals.{start_refusal}
 use Rattle.host.specs.State.{State}
-use Rattle.host.proofs.Keeps.{answered, ends_small}
+use Rattle.host.proofs.Keeps.{answered}
 use Rattle.host.proofs.Since.{later_poll}
 use Rattle.machine.specs.Ends.{ending, ending_at, broken, broken_by, broken_at, place_of, break_answer}
 use Rattle.machine.specs.Fnv.{hashes, command_text}
 use Rattle.machine.specs.Machines.{capacity_of}
 use Rattle.machine.proofs.Finishes.{ending_is, finish_ends, found_within}
 use Rattle.machine.proofs.Hashes.{text_short}
-use Rattle.machine.proofs.Laws.{accepted, machine_lawful}
+use Rattle.machine.proofs.Laws.{accepted}
 use Rattle.order.specs.Earliest.{Earliest}
 use Rattle.simulator.specs.declared.due.Due.{Due}
 use Rattle.simulator.specs.declared.simulator.Simulator.{Simulator}
