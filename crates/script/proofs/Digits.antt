@@ -1,9 +1,9 @@
 -- What digits are worth, as far as a bound goes.
-use Rattle.std.proofs.Common.{◌≡◌, ℕ, ◌+◌, ◌-◌, ◌*◌, ◌<◌, ◌≤◌, min, true, List, [], ◌∷◌, length, Some, ap, ◌∙◌, inl, inr, sym, arith}
+use Rattle.std.proofs.Common.{◌≡◌, ℕ, ◌+◌, ◌-◌, ◌*◌, ◌≤◌, min, List, [], ◌∷◌, ap, ◌∙◌, inl, inr, sym, arith}
 use native.Mathlib.Nat.{min-eq_left, min-eq_right}
 use Rattle.std.specs.List.{fold}
 use Rattle.std.proofs.lemmas.Bool.{cases_lt}
-use Rattle.script.specs.Decimals.{all_digits, digits_more, decimal_of}
+use Rattle.script.specs.Decimals.{digits_more}
 
 -- one digit more, held to the bound at each step as a sum that saturates is
 abbrev pub held : ℕ → ℕ → ℕ → ℕ
@@ -28,7 +28,6 @@ held_digits top v (b ∷ bs) h = held_digits top (held top v b) bs (omega arith)
   once : held top v b ≡ min (v * 10 + (b - 48)) top
   once = omega arith
 
--- a word of digits, where a `usize` saturates at the largest number of 64 bits
-pub number : (bs : List ℕ) (value : ℕ) → 0 < length bs → all_digits bs ≡ true → value ≡ fold (held 18446744073709551615) 0 bs → Some value ≡ decimal_of bs
-number [] value h all e = absurd (omega arith)
-number (b ∷ bs) value h all e = simp (e, all) (ap Some (held_digits 18446744073709551615 0 (b ∷ bs) (omega arith)))
+-- a `usize` saturates at the largest number of 64 bits
+pub saturated : (bs : List ℕ) → fold (held 18446744073709551615) 0 bs ≡ min (digits_more 0 bs) 18446744073709551615
+saturated bs = held_digits 18446744073709551615 0 bs (omega arith)

@@ -1,5 +1,5 @@
 -- Lines and words, by the places where they are cut.
-use Rattle.std.proofs.Common.{◌≡◌, ℕ, suc, ◌+◌, ◌<◌, ◌≤◌, not, eqb, List, [], ◌∷◌, ◌++◌, length, take, drop, Some, None, refl, ap, ◌∙◌, inl, inr, arith, cond, ltb}
+use Rattle.std.proofs.Common.{◌≡◌, ℕ, suc, ◌+◌, ◌<◌, ◌≤◌, not, eqb, List, [], ◌∷◌, ◌++◌, length, take, drop, Some, None, refl, ◌∙◌, inl, inr, arith, cond, ltb}
 use Rattle.std.specs.List.{position, position_or_len}
 use Rattle.std.proofs.lemmas.List.{append-nil, append_assoc, length-drop, length-append}
 use Rattle.std.proofs.lemmas.Bool.{cases_Bool}
@@ -23,10 +23,8 @@ lines_cut l (b ∷ bs) h = elim (cases_Bool (eqb b 10)) [
 ]
 
 -- the first line of a script that is not at its end
-pub first_line : (script line end rest : List ℕ) → 0 < length script → line ≡ take (place 10 script) script → end ≡ drop (place 10 script) script → rest ≡ drop 1 end
-    → (lines_of script ≡ line ∷ lines_of rest) × (length rest < length script)
-first_line script line end rest h e f g =
-    (simp (e, g, f) (lines_cut [] script (omega (arith, h))), omega (arith, ap length g, length-drop 1 end, ap length f, length-drop (place 10 script) script, h))
+pub first_line : (script : List ℕ) → 0 < length script → lines_of script ≡ take (place 10 script) script ∷ lines_of (drop 1 (drop (place 10 script) script))
+first_line script h = lines_cut [] script (omega (arith, h))
 
 -- a word goes up to the first space
 words_cut : (w bs : List ℕ) → words_from w bs ≡ word_before (w ++ take (place 32 bs) bs) (words_of (drop (place 32 bs) bs))

@@ -1,5 +1,5 @@
 // The lines of a script, and the words of a line.
-ghost use Rattle.std.specs.Prelude.{◌≡◌, ℕ, ◌<◌, ◌==◌, not, List, [], ◌∷◌, length, take, drop, MatchOption};
+ghost use Rattle.std.specs.Prelude.{◌≡◌, ℕ, ◌<◌, ◌==◌, not, List, [], ◌∷◌, length, take, drop, IfSome, MatchOption};
 ghost use Rattle.std.specs.List.{position, position_or_len};
 ghost use Rattle.std.specs.Iterator.{at_most};
 ghost use Rattle.script.specs.Texts.{words_of, lines_of};
@@ -12,7 +12,8 @@ pub trait Part {
 
     // The first part, and what is left behind it; none where no part is left.
     fn first(text: &[u8]) -> Option<(&[u8], &[u8])>
-        ensures { MatchOption result (parts text.now ≡ []) (λ p. (parts text.now ≡ p.0.now ∷ parts p.1.now) × (length p.1.now < length text.now)) };
+        ensures first { MatchOption result (parts text.now ≡ []) (λ p. parts text.now ≡ p.0.now ∷ parts p.1.now) }
+        ensures shorter { IfSome result (λ p. length p.1.now < length text.now) };
 }
 
 // The parts of a text that are still to come.
@@ -60,6 +61,7 @@ impl<'a, P: Part> Iterator for Parts<'a, P> {
 impl Part for Line {
     ghost parts = { lines_of };
 
+    #[tactic(auto, using(crate::proofs::Parts::first_line, std::proofs::lemmas::Grind::common_steps))]
     fn first(script: &[u8]) -> Option<(&[u8], &[u8])> {
         if script.is_empty() {
             return None;
@@ -74,6 +76,7 @@ impl Part for Line {
 impl Part for Word {
     ghost parts = { words_of };
 
+    #[tactic(auto, using(crate::proofs::Parts::no_word))]
     fn first(line: &[u8]) -> Option<(&[u8], &[u8])> {
         let start = start_of_word(line)?;
         Some(cut_before(&line[start..], b' '))
