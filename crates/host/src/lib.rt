@@ -22,6 +22,15 @@ pub struct Ended {
     pub good: bool,
 }
 
+// A command as it is given to a host: its edge, its question, and the files that it reads and makes.
+#[derive(Clone, Copy)]
+pub struct Job<'a> {
+    pub edge: usize,
+    pub question: &'a [u8],
+    pub reads: &'a [usize],
+    pub outputs: &'a [usize],
+}
+
 // Why a host refuses a call.
 #[derive(Clone, Copy, PartialEq, Eq, Debug)]
 pub enum Refusal {
@@ -56,29 +65,19 @@ pub trait Host: FileView {
     // How many commands may be pending at once, 1 to 64.
     const CAPACITY: usize;
 
-    ghost capacity: { ℕ };
+    ghost CAPACITY: { ℕ };
 
     ghost state: { Self → State };
 
     ghost makes: { Makes };
 
-    // CAPACITY, where clauses can speak of it.
-    fn capacity_of() -> usize
-        ensures { result ≡ capacity };
-
     fn clock(&self) -> u32
         ensures { result ≡ (state self.now).clock };
 
     // Starts a command; accepted, the answer is the risen clock.
-    fn start(
-        &mut self,
-        edge: usize,
-        question: &[u8],
-        reads: &[usize],
-        outputs: &[usize],
-    ) -> Result<u32, Refusal>
-        ensures answer { result ≡ start_answer capacity (state self.old) edge question.now reads.now outputs.now }
-        ensures after { state self.new ≡ after_start capacity makes (state self.old) edge question.now reads.now outputs.now }
+    fn start(&mut self, job: Job<'_>) -> Result<u32, Refusal>
+        ensures answer { result ≡ start_answer CAPACITY (state self.old) job.entry.edge job.entry.question.now job.entry.reads.now job.entry.outputs.now }
+        ensures after { state self.new ≡ after_start CAPACITY makes (state self.old) job.entry.edge job.entry.question.now job.entry.reads.now job.entry.outputs.now }
         ensures kept { is_ok result ≡ false → self.new ≡ self.old };
 
     // Ends one pending command, if there is one.
@@ -97,11 +96,11 @@ pub trait Host: FileView {
         ensures after { state self.new ≡ after_write (state self.old) file mark }
         ensures kept { is_ok result ≡ false → self.new ≡ self.old };
 
-    ghost bounds: { (1 ≤ capacity) × (capacity ≤ 64) };
+    ghost bounds: { (1 ≤ CAPACITY) × (CAPACITY ≤ 64) };
 
     ghost sees: { (h : Self) → (state h).files ≡ Self.files h };
 
-    ghost lawful: { (h : Self) → Lawful capacity (state h) };
+    ghost lawful: { (h : Self) → Lawful CAPACITY (state h) };
 
     ghost each: { (question reads marks : List ℕ) (n : ℕ) → makes question reads n ≡ Some marks → length marks ≡ n };
 }

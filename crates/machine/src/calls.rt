@@ -1,5 +1,5 @@
 // The calls of a machine: what both hosts do alike.
-ghost use Rattle.std.specs.Prelude.{◌≡◌, ℕ, ◌+◌, ◌*◌, ◌<◌, ◌≤◌, min, Bool, true, false, cond, List, [], ◌∷◌, length, is_some, is_ok, IfOk, Some, None, Ok, vec_len, MatchOption};
+ghost use Rattle.std.specs.Prelude.{◌≡◌, ℕ, ◌+◌, ◌*◌, ◌<◌, ◌≤◌, min, Bool, true, false, cond, List, [], ◌∷◌, length, is_some, is_ok, IfOk, Some, None, Ok, vec_len, MatchOption, MatchResult};
 ghost use Rattle.host.specs.State.{pends, edge_at};
 ghost use Rattle.host.specs.Calls.{command_of, started, written, start_answer, after_start, write_answer, after_write, Ends, BreaksOff};
 ghost use Rattle.host.specs.Refusals.{bad_start, start_refusal, tell_answer};
@@ -11,7 +11,7 @@ use crate::checks;
 use crate::command::{Outputs, Pending};
 use crate::disk::Disk;
 use crate::machine::Machine;
-use host::{Ended, Refusal, Stamped};
+use host::{Ended, Job, Refusal, Stamped};
 use std::alloc::{AllocError, Global};
 
 // The clock at which the last start and the last outside write are taken.
@@ -85,73 +85,60 @@ impl Machine {
     }
 
     // Starts a command; accepted, the answer is the risen clock.
-    pub fn start(
-        &mut self,
-        edge: usize,
-        question: &[u8],
-        reads: &[usize],
-        outputs: &[usize],
-    ) -> Result<u32, Refusal>
-        ensures answer { result ≡ start_answer (capacity_of self.old) (state_of self.old) edge question.now reads.now outputs.now }
-        ensures after { state_of self.new ≡ after_start (capacity_of self.old) hashes (state_of self.old) edge question.now reads.now outputs.now }
+    pub fn start(&mut self, job: Job<'_>) -> Result<u32, Refusal>
+        ensures answer { result ≡ start_answer (capacity_of self.old) (state_of self.old) job.entry.edge job.entry.question.now job.entry.reads.now job.entry.outputs.now }
+        ensures after { state_of self.new ≡ after_start (capacity_of self.old) hashes (state_of self.old) job.entry.edge job.entry.question.now job.entry.reads.now job.entry.outputs.now }
         ensures kept { is_ok result ≡ false → self.new ≡ self.old }
         ensures capacity { capacity_of self.new ≡ capacity_of self.old }
     {
-        match self.refusal(edge, question, reads, outputs) {
-            Some(refusal) => Err(refusal),
-            None => Ok(self.admit(edge, question, reads, outputs)),
-        }
+        self.check(job)?;
+        Ok(self.admit(job))
     }
 
-    // The first refusal that fits a start.
-    fn refusal(
-        &self,
-        edge: usize,
-        question: &[u8],
-        reads: &[usize],
-        outputs: &[usize],
-    ) -> Option<Refusal>
-        ensures { result ≡ start_refusal (capacity_of self.now) (state_of self.now) edge question.now reads.now outputs.now }
+    // Refuses a start with the first refusal that fits it.
+    fn check(&self, job: Job<'_>) -> Result<(), Refusal>
+        ensures { let refusal = start_refusal (capacity_of self.now) (state_of self.now) job.entry.edge job.entry.question.now job.entry.reads.now job.entry.outputs.now in
+            MatchResult result (λ _. refusal ≡ None) (λ r. refusal ≡ Some r) }
     {
-        if self.is_bad(edge, question, reads, outputs) {
-            return Some(Refusal::BadCall);
+        if self.is_bad(job) {
+            return Err(Refusal::BadCall);
         }
         if self.pending_len() >= self.capacity {
-            return Some(Refusal::Busy);
+            return Err(Refusal::Busy);
         }
         if self.disk.clock > LAST_CLOCK {
-            return Some(Refusal::ClockSpent);
+            return Err(Refusal::ClockSpent);
         }
-        None
+        Ok(())
     }
 
     // Whether a start is no lawful call.
-    fn is_bad(&self, edge: usize, question: &[u8], reads: &[usize], outputs: &[usize]) -> bool
-        ensures { result ≡ bad_start (state_of self.now) edge question.now reads.now outputs.now }
+    fn is_bad(&self, job: Job<'_>) -> bool
+        ensures { result ≡ bad_start (state_of self.now) job.entry.edge job.entry.question.now job.entry.reads.now job.entry.outputs.now }
     {
-        edge > LAST_EDGE
-            || checks::is_pending(&self.pending, edge)
-            || question.len() > MOST_QUESTION
-            || reads.len() > MOST_READS
-            || outputs.len() == 0
-            || outputs.len() > MOST_OUTPUTS
-            || checks::has_stray(reads)
-            || checks::has_stray(outputs)
-            || checks::has_repeat(outputs)
+        job.edge > LAST_EDGE
+            || checks::is_pending(&self.pending, job.edge)
+            || job.question.len() > MOST_QUESTION
+            || job.reads.len() > MOST_READS
+            || job.outputs.is_empty()
+            || job.outputs.len() > MOST_OUTPUTS
+            || checks::has_stray(job.reads)
+            || checks::has_stray(job.outputs)
+            || checks::has_repeat(job.outputs)
     }
 
     // The clock rises, and the command pends with the outcome of now.
-    fn admit(&mut self, edge: usize, question: &[u8], reads: &[usize], outputs: &[usize]) -> u32
-        requires { start_refusal (capacity_of self.old) (state_of self.old) edge question.now reads.now outputs.now ≡ None }
+    fn admit(&mut self, job: Job<'_>) -> u32
+        requires { start_refusal (capacity_of self.old) (state_of self.old) job.edge job.question.now job.reads.now job.outputs.now ≡ None }
         ensures answer { result ≡ self.old.disk.clock + 1 }
-        ensures after { state_of self.new ≡ started None (state_of self.old) (command_of hashes (state_of self.old) edge question.now reads.now outputs.now) }
+        ensures after { state_of self.new ≡ started None (state_of self.old) (command_of hashes (state_of self.old) job.entry.edge job.entry.question.now job.entry.reads.now job.entry.outputs.now) }
         ensures capacity { capacity_of self.new ≡ capacity_of self.old }
     {
-        let hash = self.disk.hash_of(question, reads);
-        let outputs = Outputs::new(outputs);
+        let hash = self.disk.hash_of(job.question, job.reads);
+        let outputs = Outputs::new(job.outputs);
         self.disk.rise();
         self.pending.push_reserved(Pending {
-            edge,
+            edge: job.edge,
             outputs,
             hash,
         });

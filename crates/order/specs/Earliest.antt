@@ -1,5 +1,16 @@
 -- The earliest of a list of records. Assumes nothing.
 use Rattle.std.specs.Prelude.{◌≡◌, ℕ, ◌+◌, ◌<◌, Bool, true, false, cond, List, [], ◌∷◌, length, drop, Some, None, Option, slice_index_or}
+use Rattle.std.specs.declared.cmp.Ordering.{Ordering}
+use Rattle.std.specs.declared.cmp.Ordering.TheVariants.{Equal}
+use Rattle.std.specs.Ordering.{is_lt}
+
+-- one record comes before another, by how records compare
+abbrev pub comes_before : {X : Type 0} → (X → X → Ordering) → X → X → Bool
+comes_before cmp x y = is_lt (cmp x y)
+
+-- only records that are the same compare as equal
+abbrev pub TellsApart : {X : Type 0} → (X → X → Ordering) → Type 0
+TellsApart {X} cmp = (x y : X) → cmp x y ≡ Equal → x ≡ y
 
 -- the place of the earliest of the records from place i on and of `best`, which stands at place `at`
 abbrev pub earliest_from : {X : Type 0} → (X → X → Bool) → X → ℕ → ℕ → List X → ℕ

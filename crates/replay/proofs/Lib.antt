@@ -1,3 +1,2 @@
-pub mod Same
 pub mod Endings
-pub mod Table
+pub mod Order

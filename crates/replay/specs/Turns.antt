@@ -1,5 +1,6 @@
 -- The endings of a recording, and whose turn it is. Assumes nothing.
-use Rattle.std.specs.Prelude.{ℕ, ◌+◌, Bool, true, cond, not, ◌&&◌, ◌||◌, List, [], ◌∷◌, length, drop, Some, None, Option, ◌==◌, nat_lt}
+use Rattle.std.specs.Prelude.{ℕ, ◌+◌, Bool, cond, not, ◌&&◌, ◌||◌, List, [], ◌∷◌, length, drop, Some, None, Option, ◌==◌, nat_lt}
+use Rattle.std.specs.List.{list_all, position_or_len}
 use Rattle.replay.specs.declared.turn.Turn.{Turn}
 
 -- the nearer ending comes first, and of equal places the lower edge
@@ -8,8 +9,7 @@ by_place x y = nat_lt x.place y.place || (x.place == y.place && nat_lt x.edge y.
 
 -- the place of an edge's next ending, counted from i on; past the last where there is none
 abbrev pub next_from : ℕ → List ℕ → ℕ → ℕ
-next_from i [] e = i
-next_from i (x ∷ xs) e = cond (x == e) i (next_from (i + 1) xs e)
+next_from i xs e = i + position_or_len (λ x. x == e) xs
 
 -- the turn of an edge, by the endings that are left
 abbrev pub turn_of : List ℕ → ℕ → Turn
@@ -21,8 +21,7 @@ left_after endings p = cond (nat_lt p (length endings)) (drop (p + 1) endings) e
 
 -- whether each ending names an edge up to 127
 abbrev pub all_edges : List ℕ → Bool
-all_edges [] = true
-all_edges (x ∷ xs) = nat_lt x 128 && all_edges xs
+all_edges xs = list_all (λ x. nat_lt x 128) xs
 
 -- the endings of a recording: three letters, then up to 512 edges; none where it has another form
 abbrev pub endings_of : List ℕ → Option (List ℕ)

@@ -13,81 +13,7 @@ ghost use Rattle.machine.proofs.Laws.{machine_lawful};
 ghost use Rattle.machine.proofs.Outcomes.{hashes_each};
 
 use crate::replay::{CAPACITY, Replay};
-use host::{Ended, FileView, Host, Refusal, Stamped};
-
-impl Replay {
-    // Starts a command on the machine.
-    fn launch(
-        &mut self,
-        edge: usize,
-        question: &[u8],
-        reads: &[usize],
-        outputs: &[usize],
-    ) -> Result<u32, Refusal>
-        ensures answer { result ≡ start_answer 8 (host_of self.old) edge question.now reads.now outputs.now }
-        ensures after { host_of self.new ≡ after_start 8 hashes (host_of self.old) edge question.now reads.now outputs.now }
-        ensures left { (rep_of self.new).left ≡ (rep_of self.old).left }
-        ensures kept { is_ok result ≡ false → self.new ≡ self.old }
-    {
-        self.machine.start(edge, question, reads, outputs)
-    }
-
-    // Ends the command at a place, and drops the endings through its own.
-    fn end_at(&mut self, place: usize, rewrites: bool) -> Option<Ended>
-        requires { place < length (host_of self.old).pending }
-        ensures answer { result ≡ Some (ending (host_of self.old) place) }
-        ensures after { rep_of self.new ≡ rep_ended rewrites (rep_of self.old) place }
-        ensures ends { Ends (host_of self.old) (ending (host_of self.old) place) (host_of self.new) }
-        ensures small { (ending (host_of self.old) place).edge < 128 }
-    {
-        self.drop_endings(place);
-        self.machine.finish(place, rewrites)
-    }
-
-    // Drops the endings through that of the command at a place; none where it has none.
-    fn drop_endings(&mut self, place: usize)
-        requires { place < length (host_of self.old).pending }
-        ensures machine { self.new.machine ≡ self.old.machine }
-        ensures left { (rep_of self.new).left ≡ left_after (rep_of self.old).left (turn_at (rep_of self.old) place).place }
-    {
-        self.from = self.from_after(place);
-    }
-
-    // Where the endings that are left begin once the command at a place has ended.
-    fn from_after(&self, place: usize) -> usize
-        requires { place < length (host_of self.now).pending }
-        ensures within { result ≤ vec_len self.now.endings }
-        ensures left { drop result self.now.endings.items ≡ left_after (rep_of self.now).left (turn_at (rep_of self.now) place).place }
-    {
-        let ending = self.turn_at(place).place;
-        if ending < self.endings.len() - self.from {
-            self.from + ending + 1
-        } else {
-            self.from
-        }
-    }
-
-    // Breaks the edge's command off.
-    fn drop_of(&mut self, edge: usize) -> Result<bool, Refusal>
-        ensures breaks { BreaksOff (host_of self.old) edge result (host_of self.new) }
-        ensures answer { result ≡ break_answer (host_of self.old) edge }
-        ensures after { host_of self.new ≡ broken (host_of self.old) edge }
-        ensures left { (rep_of self.new).left ≡ (rep_of self.old).left }
-        ensures kept { is_ok result ≡ false → self.new ≡ self.old }
-    {
-        self.machine.break_off(edge)
-    }
-
-    // A write from outside, on the machine.
-    fn put(&mut self, file: usize, mark: Option<u32>) -> Result<u32, Refusal>
-        ensures answer { result ≡ write_answer (host_of self.old) file }
-        ensures after { host_of self.new ≡ after_write (host_of self.old) file mark }
-        ensures left { (rep_of self.new).left ≡ (rep_of self.old).left }
-        ensures kept { is_ok result ≡ false → self.new ≡ self.old }
-    {
-        self.machine.outside_write(file, mark)
-    }
-}
+use host::{Ended, FileView, Host, Job, Refusal, Stamped};
 
 impl FileView for Replay {
     ghost files = { λ s. (host_of s).files };
@@ -100,7 +26,7 @@ impl FileView for Replay {
 impl Host for Replay {
     const CAPACITY: usize = CAPACITY;
 
-    ghost capacity = { 8 };
+    ghost CAPACITY = { 8 };
 
     ghost state = { λ s. host_of s };
 
@@ -114,27 +40,17 @@ impl Host for Replay {
 
     ghost each = { hashes_each };
 
-    fn capacity_of() -> usize {
-        Self::CAPACITY
-    }
-
     fn clock(&self) -> u32 {
         self.machine.clock()
     }
 
-    fn start(
-        &mut self,
-        edge: usize,
-        question: &[u8],
-        reads: &[usize],
-        outputs: &[usize],
-    ) -> Result<u32, Refusal>
-        ensures answer { result ≡ start_answer 8 (host_of self.old) edge question.now reads.now outputs.now }
-        ensures after { host_of self.new ≡ after_start 8 hashes (host_of self.old) edge question.now reads.now outputs.now }
+    fn start(&mut self, job: Job<'_>) -> Result<u32, Refusal>
+        ensures answer { result ≡ start_answer 8 (host_of self.old) job.entry.edge job.entry.question.now job.entry.reads.now job.entry.outputs.now }
+        ensures after { host_of self.new ≡ after_start 8 hashes (host_of self.old) job.entry.edge job.entry.question.now job.entry.reads.now job.entry.outputs.now }
         ensures left { (rep_of self.new).left ≡ (rep_of self.old).left }
         ensures kept { is_ok result ≡ false → self.new ≡ self.old }
     {
-        self.launch(edge, question, reads, outputs)
+        self.machine.start(job)
     }
 
     fn poll(&mut self) -> Option<Ended>
@@ -144,10 +60,10 @@ impl Host for Replay {
         ensures exact { rep_of self.new ≡ rep_polled (rep_of self.old) (next_place (rep_of self.old)) }
         ensures first { IfSome result (λ e. TurnFirst (rep_of self.old) e) }
     {
-        match self.next_place() {
-            None => None,
-            Some(place) => self.end_at(place, true),
-        }
+        let place = self.next_place()?;
+        let ended = self.machine.finish(place, true)?;
+        self.drop_endings(ended.edge);
+        Some(ended)
     }
 
     fn break_off(&mut self, edge: usize) -> Result<bool, Refusal>
@@ -157,7 +73,7 @@ impl Host for Replay {
         ensures left { (rep_of self.new).left ≡ (rep_of self.old).left }
         ensures kept { is_ok result ≡ false → self.new ≡ self.old }
     {
-        self.drop_of(edge)
+        self.machine.break_off(edge)
     }
 
     fn outside_write(&mut self, file: usize, mark: Option<u32>) -> Result<u32, Refusal>
@@ -166,6 +82,6 @@ impl Host for Replay {
         ensures left { (rep_of self.new).left ≡ (rep_of self.old).left }
         ensures kept { is_ok result ≡ false → self.new ≡ self.old }
     {
-        self.put(file, mark)
+        self.machine.outside_write(file, mark)
     }
 }

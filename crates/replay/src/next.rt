@@ -1,14 +1,16 @@
 // A replay's beginning, the endings that are left, and whose turn it is.
-ghost use Rattle.std.specs.Prelude.{◌≡◌, ℕ, ◌+◌, ◌<◌, ◌≤◌, Bool, true, false, List, length, drop, MatchOption};
+ghost use Rattle.std.specs.Prelude.{◌≡◌, ℕ, ◌+◌, ◌<◌, ◌≤◌, Bool, true, false, List, length, MatchOption, ◌==◌};
+ghost use Rattle.std.specs.List.{position};
 ghost use Rattle.order.specs.Earliest.{Earliest};
-ghost use Rattle.replay.specs.Turns.{by_place, next_from, endings_of};
-ghost use Rattle.replay.specs.Replays.{turns, turn_at, next_place};
+ghost use Rattle.replay.specs.Turns.{by_place, next_from, turn_of, left_after, endings_of};
+ghost use Rattle.replay.specs.Replays.{turns, next_place};
 ghost use Rattle.replay.specs.Meaning.{rep_of, host_of, Began};
 
 use crate::recording;
 use crate::recording::Fault;
 use crate::replay::{CAPACITY, Replay};
 use crate::turn::Turn;
+use arrayvec::ArrayVec;
 use machine::Machine;
 use order::earliest;
 use std::alloc::Global;
@@ -18,15 +20,10 @@ impl Replay {
     pub fn new(heap: Global, recording: &[u8]) -> Result<Replay, Fault>
         ensures { Began result (endings_of recording.now) }
     {
-        let Some(endings) = recording::endings(recording) else {
-            return Err(Fault::Malformed);
-        };
-        let endings = Vec::from_slice(heap, endings)?;
-        let machine = Machine::new(heap, CAPACITY)?;
+        let endings = recording::endings(recording).ok_or(Fault::Malformed)?;
         Ok(Replay {
-            machine,
-            endings,
-            from: 0,
+            endings: Vec::from_slice(heap, endings)?,
+            machine: Machine::new(heap, CAPACITY)?,
         })
     }
 
@@ -34,53 +31,56 @@ impl Replay {
     pub fn endings_left(&self) -> &[u8]
         ensures { result.now ≡ (rep_of self.now).left }
     {
-        rest(&self.endings, self.from)
+        &self.endings
     }
 
     // The place of the command that ends next.
+    #[tactic(auto, using(crate::proofs::Order::first_place, crate::proofs::Order::first_law))]
     pub(crate) fn next_place(&self) -> Option<usize>
         ensures place { result ≡ next_place (rep_of self.now) }
         ensures first { MatchOption result (length (host_of self.now).pending ≡ 0) (λ k. Earliest by_place (turns (rep_of self.now)) k) }
     {
-        let mut table = [Turn { place: 0, edge: 0 }; CAPACITY];
-        let count = self.machine.pending_len();
-        for k in 0..count {
-            table[k] = self.turn_at(k);
-        }
-        earliest(&table[0..count])
+        earliest(self.turns().as_slice())
     }
 
-    // The turn of the pending command at a place.
-    pub(crate) fn turn_at(&self, place: usize) -> Turn
-        requires { place < length (host_of self.now).pending }
-        ensures { result ≡ turn_at (rep_of self.now) place }
+    // The turns of the pending commands.
+    fn turns(&self) -> ArrayVec<Turn, CAPACITY>
+        ensures { result.items ≡ turns (rep_of self.now) }
     {
-        match self.machine.edge_at(place) {
-            Some(edge) => Turn {
-                place: next_ending(self.endings_left(), edge),
-                edge,
-            },
-            None => Turn { place: 0, edge: 0 },
+        let mut turns = ArrayVec::new();
+        for place in 0..self.machine.pending_len() {
+            if let Some(edge) = self.machine.edge_at(place) {
+                turns.push(self.turn_of(edge));
+            }
+        }
+        turns
+    }
+
+    // The turn of an edge: the place of its next ending; past the last where it has none.
+    #[tactic(auto, using(crate::proofs::Endings::next_is))]
+    fn turn_of(&self, edge: usize) -> Turn
+        ensures { result ≡ turn_of (rep_of self.now).left edge }
+    {
+        Turn {
+            place: self.next_ending(edge).unwrap_or(self.endings.len()),
+            edge,
         }
     }
-}
 
-// What is left of the endings from a place on.
-fn rest(endings: &[u8], from: usize) -> &[u8]
-    requires { from ≤ length endings.now }
-    ensures { result.now ≡ drop from endings.now }
-{
-    &endings[from..]
-}
+    // The place of the edge's next ending.
+    fn next_ending(&self, edge: usize) -> Option<usize>
+        ensures { result ≡ position (λ e. e == edge) self.now.endings.items }
+    {
+        self.endings.iter().position(|&e| usize::from(e) == edge)
+    }
 
-// The place of the edge's next ending; past the last where it has none.
-fn next_ending(endings: &[u8], edge: usize) -> usize
-    ensures { result ≡ next_from 0 endings.now edge }
-{
-    for (i, e) in endings.iter().enumerate() {
-        if *e as usize == edge {
-            return i;
+    // Drops the endings through the edge's next; none where it has none.
+    pub(crate) fn drop_endings(&mut self, edge: usize)
+        ensures machine { self.new.machine ≡ self.old.machine }
+        ensures left { (rep_of self.new).left ≡ left_after (rep_of self.old).left (next_from 0 (rep_of self.old).left edge) }
+    {
+        if let Some(place) = self.next_ending(edge) {
+            self.endings.drain(..=place);
         }
     }
-    endings.len()
 }

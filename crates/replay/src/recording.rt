@@ -4,6 +4,7 @@ ghost use Rattle.std.specs.Option.{option_map};
 ghost use Rattle.replay.specs.Turns.{endings_of, all_edges};
 ghost use Rattle.replay.specs.declared.recording.Fault.TheVariants.{Memory};
 
+use host::EDGES;
 use std::alloc::AllocError;
 
 const MOST_ENDINGS: usize = 512;
@@ -27,24 +28,13 @@ impl From<AllocError> for Fault {
 pub(crate) fn endings(recording: &[u8]) -> Option<&[u8]>
     ensures { option_map (λ e. e.now) result ≡ endings_of recording.now }
 {
-    if recording.len() < 3 || recording[0] != b'N' || recording[1] != b'J' || recording[2] != b'R' {
-        return None;
-    }
-    let endings = &recording[3..];
-    if endings.len() > MOST_ENDINGS || !are_edges(endings) {
-        return None;
-    }
-    Some(endings)
+    let endings = recording.strip_prefix(b"NJR")?;
+    (endings.len() <= MOST_ENDINGS && are_edges(endings)).then_some(endings)
 }
 
 // Whether each byte is the number of an edge.
 fn are_edges(endings: &[u8]) -> bool
     ensures { result ≡ all_edges endings.now }
 {
-    for e in endings {
-        if *e >= 128 {
-            return false;
-        }
-    }
-    true
+    endings.iter().all(|&e| usize::from(e) < EDGES)
 }

@@ -1,3 +1,3 @@
 pub mod Timed
-pub mod Same
-pub mod Exact
+pub mod Order
+pub mod Kept

@@ -4,7 +4,7 @@ ghost use Rattle.std.proofs.Common.{subst, rules, arith};
 ghost use Rattle.host.specs.Calls.{start_answer, after_start, write_answer, after_write, Polls, Ends, BreaksOff};
 ghost use Rattle.machine.specs.Fnv.{hashes};
 ghost use Rattle.machine.specs.Ends.{ending, break_answer, place_of};
-ghost use Rattle.order.specs.Earliest.{earliest_place};
+ghost use Rattle.order.specs.Earliest.{Earliest, earliest_place};
 ghost use Rattle.simulator.specs.Dues.{by_due, no_due};
 ghost use Rattle.simulator.specs.Sims.{sim_after_start, sim_ended, sim_polled, sim_answer, sim_broken, sim_after_write, DueFirst};
 ghost use Rattle.simulator.specs.Simulators.{sim_of, host_of};
@@ -15,78 +15,20 @@ ghost use Rattle.machine.proofs.Outcomes.{hashes_each};
 
 use crate::due::Due;
 use crate::simulator::{CAPACITY, Simulator};
-use host::{Ended, FileView, Host, Refusal, Stamped};
+use host::{Ended, FileView, Host, Job, Refusal, Stamped};
 use machine::command_len;
 use order::earliest;
 
 impl Simulator {
-    // Starts a command on the machine; accepted, it is due after a tick for each byte of its text.
-    fn launch(
-        &mut self,
-        edge: usize,
-        question: &[u8],
-        reads: &[usize],
-        outputs: &[usize],
-    ) -> Result<u32, Refusal>
-        ensures answer { result ≡ start_answer 16 (host_of self.old) edge question.now reads.now outputs.now }
-        ensures after { host_of self.new ≡ after_start 16 hashes (host_of self.old) edge question.now reads.now outputs.now }
-        ensures exact { sim_of self.new ≡ sim_after_start (sim_of self.old) edge question.now reads.now outputs.now }
-        ensures kept { is_ok result ≡ false → self.new ≡ self.old }
+    // The place of the command that is due first.
+    #[tactic(auto, using(crate::proofs::Order::first_place, crate::proofs::Order::first_law))]
+    fn first_due(&self) -> Option<usize>
+        ensures place { result ≡ earliest_place by_due (sim_of self.now).dues }
+        ensures first { MatchOption result (length (sim_of self.now).dues ≡ 0) (λ k. Earliest by_due (sim_of self.now).dues k) }
     {
-        match self.machine.start(edge, question, reads, outputs) {
-            Ok(clock) => {
-                let tick = self.tick + command_len(question) as u64;
-                self.dues.push_reserved(Due { tick, edge });
-                Ok(clock)
-            }
-            Err(refusal) => Err(refusal),
-        }
-    }
-
-    // Ends the command at a place, at its due tick.
-    fn end_at(&mut self, place: usize, rewrites: bool) -> Option<Ended>
-        requires { place < vec_len self.old.dues }
-        ensures answer { result ≡ Some (ending (host_of self.old) place) }
-        ensures after { sim_of self.new ≡ sim_ended rewrites (sim_of self.old) place }
-        ensures ends { Ends (host_of self.old) (ending (host_of self.old) place) (host_of self.new) }
-        ensures small { (ending (host_of self.old) place).edge < 128 }
-        ensures paired { (slice_index_or self.old.dues.items place no_due).edge ≡ (ending (host_of self.old) place).edge }
-    {
-        let due = self.dues.remove(place);
-        self.tick = due.tick;
-        self.machine.finish(place, rewrites)
-    }
-
-    // Breaks the edge's command off, and forgets when it was due.
-    fn drop_of(&mut self, edge: usize) -> Result<bool, Refusal>
-        ensures answer { result ≡ break_answer (host_of self.old) edge }
-        ensures after { sim_of self.new ≡ sim_broken (sim_of self.old) edge }
-        ensures breaks { BreaksOff (host_of self.old) edge result (host_of self.new) }
-        ensures kept { is_ok result ≡ false → self.new ≡ self.old }
-    {
-        if edge > LAST_EDGE {
-            return Err(Refusal::BadCall);
-        }
-        match self.machine.place_of(edge) {
-            None => Ok(false),
-            Some(place) => {
-                let _ = self.dues.remove(place);
-                self.machine.break_off(edge)
-            }
-        }
-    }
-
-    // A write from outside, on the machine.
-    fn put(&mut self, file: usize, mark: Option<u32>) -> Result<u32, Refusal>
-        ensures answer { result ≡ write_answer (host_of self.old) file }
-        ensures after { sim_of self.new ≡ sim_after_write (sim_of self.old) file mark }
-        ensures kept { is_ok result ≡ false → self.new ≡ self.old }
-    {
-        self.machine.outside_write(file, mark)
+        earliest(&self.dues)
     }
 }
-
-const LAST_EDGE: usize = 127;
 
 impl FileView for Simulator {
     ghost files = { λ s. (host_of s).files };
@@ -99,7 +41,7 @@ impl FileView for Simulator {
 impl Host for Simulator {
     const CAPACITY: usize = CAPACITY;
 
-    ghost capacity = { 16 };
+    ghost CAPACITY = { 16 };
 
     ghost state = { λ s. host_of s };
 
@@ -113,27 +55,23 @@ impl Host for Simulator {
 
     ghost each = { hashes_each };
 
-    fn capacity_of() -> usize {
-        Self::CAPACITY
-    }
-
     fn clock(&self) -> u32 {
         self.machine.clock()
     }
 
-    fn start(
-        &mut self,
-        edge: usize,
-        question: &[u8],
-        reads: &[usize],
-        outputs: &[usize],
-    ) -> Result<u32, Refusal>
-        ensures answer { result ≡ start_answer 16 (host_of self.old) edge question.now reads.now outputs.now }
-        ensures after { host_of self.new ≡ after_start 16 hashes (host_of self.old) edge question.now reads.now outputs.now }
-        ensures exact { sim_of self.new ≡ sim_after_start (sim_of self.old) edge question.now reads.now outputs.now }
+    fn start(&mut self, job: Job<'_>) -> Result<u32, Refusal>
+        ensures answer { result ≡ start_answer 16 (host_of self.old) job.entry.edge job.entry.question.now job.entry.reads.now job.entry.outputs.now }
+        ensures after { host_of self.new ≡ after_start 16 hashes (host_of self.old) job.entry.edge job.entry.question.now job.entry.reads.now job.entry.outputs.now }
+        ensures exact { sim_of self.new ≡ sim_after_start (sim_of self.old) job.entry.edge job.entry.question.now job.entry.reads.now job.entry.outputs.now }
         ensures kept { is_ok result ≡ false → self.new ≡ self.old }
     {
-        self.launch(edge, question, reads, outputs)
+        let clock = self.machine.start(job)?;
+        let tick = self.tick + command_len(job.question) as u64;
+        self.dues.push_reserved(Due {
+            tick,
+            edge: job.edge,
+        });
+        Ok(clock)
     }
 
     fn poll(&mut self) -> Option<Ended>
@@ -143,10 +81,9 @@ impl Host for Simulator {
         ensures exact { sim_of self.new ≡ sim_polled (sim_of self.old) (earliest_place by_due (sim_of self.old).dues) }
         ensures first { IfSome result (λ e. DueFirst (sim_of self.old) e (sim_of self.new)) }
     {
-        match earliest(&self.dues) {
-            None => None,
-            Some(place) => self.end_at(place, false),
-        }
+        let place = self.first_due()?;
+        self.tick = self.dues.remove(place).tick;
+        self.machine.finish(place, false)
     }
 
     fn break_off(&mut self, edge: usize) -> Result<bool, Refusal>
@@ -155,7 +92,12 @@ impl Host for Simulator {
         ensures exact { sim_of self.new ≡ sim_broken (sim_of self.old) edge }
         ensures kept { is_ok result ≡ false → self.new ≡ self.old }
     {
-        self.drop_of(edge)
+        let place = self.machine.place_of(edge);
+        let was_pending = self.machine.break_off(edge)?;
+        if let Some(place) = place {
+            self.dues.remove(place);
+        }
+        Ok(was_pending)
     }
 
     fn outside_write(&mut self, file: usize, mark: Option<u32>) -> Result<u32, Refusal>
@@ -164,6 +106,6 @@ impl Host for Simulator {
         ensures exact { sim_of self.new ≡ sim_after_write (sim_of self.old) file mark }
         ensures kept { is_ok result ≡ false → self.new ≡ self.old }
     {
-        self.put(file, mark)
+        self.machine.outside_write(file, mark)
     }
 }

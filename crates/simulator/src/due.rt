@@ -1,26 +1,8 @@
 // When a simulated command is due.
-ghost use Rattle.std.specs.Prelude.{◌≡◌};
-ghost use Rattle.simulator.specs.Dues.{by_due};
-ghost use Rattle.std.proofs.Common.{rules};
 
-use order::Ordered;
-
-#[derive(Clone, Copy)]
+// The earlier tick comes first, and of equal ticks the lower edge.
+#[derive(Clone, Copy, PartialEq, Eq, PartialOrd, Ord)]
 pub struct Due {
     pub tick: u64,
     pub edge: usize,
-}
-
-impl Ordered for Due {
-    ghost before = { by_due };
-
-    ghost asym = { Prim.search rules };
-
-    ghost steps = { Prim.search rules };
-
-    ghost total = { Prim.search rules };
-
-    fn is_before(&self, other: &Due) -> bool {
-        self.tick < other.tick || (self.tick == other.tick && self.edge < other.edge)
-    }
 }

@@ -1,11 +1,8 @@
-use Rattle.std.proofs.Common.{arith}
-use Rattle.order.proofs.Turns.{so_far_law, so_far_place}
+use Rattle.order.proofs.Turns.{earliest_law, least_ran}
 use Rattle.order.proofs.earliest.Goals as goal
 
-pub returns : goal.returns
-returns g c =
-    let law = g.met.T.Ordered in
-    record {
-      place = so_far_place _ law.asym law.steps law.total _ _ _ (omega arith) (omega arith) c.loop-i.invariant;
-      law = so_far_law _ law.asym law.steps law.total _ _ _ (omega arith) (omega arith) c.loop-i.invariant;
-    }
+pub returns-clause-place : goal.returns-clause-place
+returns-clause-place g c = least_ran _ g.met.T.Ord.total c.zip.result _ _ (cc) (cc) c.in_ok-place.ensures.ran
+
+pub returns-clause-law : goal.returns-clause-law
+returns-clause-law g c = λ apart. earliest_law _ g.met.T.Ord.total apart _ _ (returns-clause-place g c)

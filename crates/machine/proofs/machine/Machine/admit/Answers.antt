@@ -8,7 +8,7 @@ use Rattle.machine.proofs.machine.Machine.admit.Goals as goal
 pub invariant_of-self : goal.invariant_of-self
 invariant_of-self c =
     let self = c.args.self.now in
-    let a = accepted self.capacity (state_of self) c.args.edge c.args.question.now c.args.reads.now c.args.outputs.now c.requires in
+    let a = accepted self.capacity (state_of self) c.args.job.edge c.args.job.question.now c.args.job.reads.now c.args.job.outputs.now c.requires in
     let n = c.push_reserved.ensures.len in
     let t = ap (λ (v : Volume). v.clock) c.rise.ensures in
     record {
@@ -17,7 +17,7 @@ invariant_of-self c =
       few = omega (arith, n, a.few, self.each);
       clock = omega (arith, n, t, a.clock, a.few, self.each, self.small);
       each = each_counted _ _ c.push_reserved.new.self.ok.0;
-      lawful = start_lawful self.capacity (volume self.disk) (volume c.rise.new.self) (vec_items self.pending) _ _ c.args.question.now c.rise.ensures c.push_reserved.ensures.items self.lawful self.small a;
+      lawful = start_lawful self.capacity (volume self.disk) (volume c.rise.new.self) (vec_items self.pending) _ _ c.args.job.question.now c.rise.ensures c.push_reserved.ensures.items self.lawful self.small a;
     }
 
 pub returns : goal.returns
@@ -26,6 +26,6 @@ returns c =
     record {
       answer = ap (λ (v : Volume). v.clock) c.rise.ensures;
       after = start_state (volume self.disk) (volume c.rise.new.self) (vec_items self.pending) _ _ _ c.rise.ensures c.push_reserved.ensures.items
-          (told_started (vec_items self.disk.files) self.disk.clock (vec_items self.pending) c.args.edge c.new-outputs.result c.hash_of-hash.result c.args.question.now c.args.reads.now c.args.outputs.now c.new-outputs.ensures c.hash_of-hash.ensures);
+          (told_started (vec_items self.disk.files) self.disk.clock (vec_items self.pending) c.args.job.edge c.new-outputs.result c.hash_of-hash.result c.args.job.question.now c.args.job.reads.now c.args.job.outputs.now c.new-outputs.ensures c.hash_of-hash.ensures);
       capacity = search rules;
     }
