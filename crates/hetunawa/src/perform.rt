@@ -4,10 +4,10 @@ ghost use Rattle.hetunawa.specs.Performs.{Performs};
 
 use crate::answer::Answer;
 use crate::call::Call;
-use host::Host;
+use host::{Host, Job};
 
 pub fn perform<B: Host>(host: &mut B, call: &Call) -> Answer
-    ensures { Performs B.Host.capacity B.Host.makes (meaning call.now) (B.Host.state host.old) result (B.Host.state host.new) }
+    ensures { Performs B.Host.CAPACITY B.Host.makes (meaning call.now) (B.Host.state host.old) result (B.Host.state host.new) }
 {
     let answer = match call {
         Call::Write(file, mark) => host.outside_write(*file, Some(*mark)).map(Answer::Written),
@@ -15,7 +15,12 @@ pub fn perform<B: Host>(host: &mut B, call: &Call) -> Answer
         Call::Tell(file) => host.tell(*file).map(|found| found.map_or(Answer::Absent, Answer::Present)),
         Call::Clock => Ok(Answer::Clock(host.clock())),
         Call::Start(start) => host
-            .start(start.edge, &start.question, &start.reads, &start.outputs)
+            .start(Job {
+                edge: start.edge,
+                question: &start.question,
+                reads: &start.reads,
+                outputs: &start.outputs,
+            })
             .map(Answer::Started),
         Call::Poll => Ok(host.poll().map_or(Answer::NoEnding, |ended| {
             if ended.good {
