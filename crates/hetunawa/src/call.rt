@@ -152,28 +152,20 @@ struct Lists {
 }
 
 // The files to read up to the word `outputs`, and those to make behind it.
-fn lists_of(heap: Global, words: Words<'_>) -> Result<Lists, Unread>
+fn lists_of(heap: Global, mut words: Words<'_>) -> Result<Lists, Unread>
     ensures { Reads listed (lists_more false [] [] (words_of words.entry.rest.now)) result }
 {
     let mut reads = Vec::new(heap);
-    let mut outputs = Vec::new(heap);
-    let mut making = false;
-    for word in words {
-        if !making && is(word, b"outputs") {
-            making = true;
-            continue;
+    'reads: loop {
+        let word = words.next().ok_or(Unread::NotUnderstood)?;
+        if is(word, b"outputs") {
+            break;
         }
-        let Some(file) = decimal(word) else {
-            return Err(Unread::NotUnderstood);
-        };
-        if making {
-            outputs.push(file)?;
-        } else {
-            reads.push(file)?;
-        }
+        reads.push(decimal(word).ok_or(Unread::NotUnderstood)?)?;
     }
-    if !making {
-        return Err(Unread::NotUnderstood);
+    let mut outputs = Vec::new(heap);
+    'outputs: for word in words {
+        outputs.push(decimal(word).ok_or(Unread::NotUnderstood)?)?;
     }
     Ok(Lists { reads, outputs })
 }

@@ -56,7 +56,8 @@ fn words_given(rt: &HostRuntime) -> io::Result<Vec<String>> {
 }
 
 fn explain(rt: &HostRuntime) -> Result<(), Failed> {
-    rt.print(help::TEXT).map_err(|error| complain(rt, "standard output", error))
+    rt.print(help::TEXT)
+        .map_err(|error| complain(rt, "standard output", error))
 }
 
 // Tells why words were not understood.
@@ -91,7 +92,11 @@ fn refuse<D: Display + Drop>(rt: &HostRuntime, what: D) -> Failed {
 // Does a script of host calls on a fresh simulator.
 fn over_simulator(rt: &HostRuntime, script: &str) -> Result<(), Failed> {
     let calls = read(rt, script)?;
-    let mut simulator = Simulator::new(rt.alloc()).map_err(|_| complain(rt, script, Fault::Memory))?;
+    let mut simulator = Simulator::new(rt.alloc()).map_err(|_| complain(
+        rt,
+        script,
+        Fault::Memory,
+    ))?;
     play(rt, &mut simulator, script, &calls)
 }
 
@@ -110,7 +115,10 @@ fn over_replay(rt: &HostRuntime, script: &str, recording: &str) -> Result<(), Fa
 fn show_outline(rt: &HostRuntime, path: &str) -> Result<(), Failed> {
     let bytes = read(rt, path)?;
     let statements = text::manifest(rt.alloc(), &bytes).map_err(|refusal| match refusal {
-        Refusal::Faulty(fault) => refuse(rt, format_args!("{} at {}", fault.number(), fault.place().byte)),
+        Refusal::Faulty(fault) => refuse(
+            rt,
+            format_args!("{} at {}", fault.number(), fault.place().byte),
+        ),
         Refusal::Memory => complain(rt, path, Fault::Memory),
     })?;
     print_lines(rt, &statements).map_err(|error| complain(rt, path, error))
@@ -131,7 +139,10 @@ fn read(rt: &HostRuntime, path: &str) -> Result<Vec<u8>, Failed> {
 
 // Does the calls of a script on a host, and prints the answers.
 fn play<B: Host>(rt: &HostRuntime, host: &mut B, script: &str, calls: &[u8]) -> Result<(), Failed> {
-    let mut out = BufWriter::new(rt.alloc(), rt.stdout())
-        .map_err(|_| complain(rt, script, Fault::Memory))?;
+    let mut out = BufWriter::new(rt.alloc(), rt.stdout()).map_err(|_| complain(
+        rt,
+        script,
+        Fault::Memory,
+    ))?;
     hostscript::run(rt.alloc(), host, calls, &mut out).map_err(|fault| complain(rt, script, fault))
 }

@@ -12,7 +12,9 @@ pub fn perform<B: Host>(host: &mut B, call: &Call) -> Answer
     let answer = match call {
         Call::Write(file, mark) => host.outside_write(*file, Some(*mark)).map(Answer::Written),
         Call::Remove(file) => host.outside_write(*file, None).map(Answer::Removed),
-        Call::Tell(file) => host.tell(*file).map(|found| found.map_or(Answer::Absent, Answer::Present)),
+        Call::Tell(file) => host
+            .tell(*file)
+            .map(|found| found.map_or(Answer::Absent, Answer::Present)),
         Call::Clock => Ok(Answer::Clock(host.clock())),
         Call::Start(start) => host
             .start(Job {
@@ -22,13 +24,15 @@ pub fn perform<B: Host>(host: &mut B, call: &Call) -> Answer
                 outputs: &start.outputs,
             })
             .map(Answer::Started),
-        Call::Poll => Ok(host.poll().map_or(Answer::NoEnding, |ended| {
-            if ended.good {
-                Answer::Good(ended.edge)
-            } else {
-                Answer::Failed(ended.edge)
-            }
-        })),
+        Call::Poll => Ok(
+            host.poll().map_or(Answer::NoEnding, |ended| {
+                if ended.good {
+                    Answer::Good(ended.edge)
+                } else {
+                    Answer::Failed(ended.edge)
+                }
+            }),
+        ),
         Call::BreakOff(edge) => host.break_off(*edge).map(|broken| {
             if broken {
                 Answer::BrokenOff
