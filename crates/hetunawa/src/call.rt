@@ -7,7 +7,7 @@ ghost use Rattle.hetunawa.specs.declared.call.Unread.TheVariants.{Memory};
 ghost use Rattle.hetunawa.specs.Starts.{Reads, listed, lists_more, start_words, start_of, started_as, call_of};
 ghost use Rattle.script.specs.Texts.{words_of};
 
-use crate::verb::{Verb, is, verb_in};
+use crate::verb::{Verb, verb_in};
 use script::{Words, cut_at_colon, decimal, file_number, mark};
 use std::alloc::{AllocError, AllocFailed, Global};
 
@@ -141,7 +141,7 @@ fn started_edge(words: &mut Words<'_>) -> Option<usize>
 {
     let _ = words.next()?;
     let edge = decimal(words.next()?)?;
-    is(words.next()?, b"reads").then_some(edge)
+    (words.next()? == b"reads".as_slice()).then_some(edge)
 }
 
 // The files that a start reads and makes.
@@ -158,7 +158,7 @@ fn lists_of(heap: Global, mut words: Words<'_>) -> Result<Lists, Unread>
     let mut reads = Vec::new(heap);
     'reads: loop {
         let word = words.next().ok_or(Unread::NotUnderstood)?;
-        if is(word, b"outputs") {
+        if word == b"outputs".as_slice() {
             break;
         }
         reads.push(decimal(word).ok_or(Unread::NotUnderstood)?)?;

@@ -35,24 +35,21 @@ fn main(rt: HostRuntime) -> ExitCode {
 // Does what the words of the call say.
 fn obey(rt: &HostRuntime) -> Result<(), Failed> {
     let words = words_given(rt).map_err(|error| complain(rt, "the words of the call", error))?;
-    match words.as_slice() {
-        [] => explain(rt),
-        [word] if word.as_str() == "--help" => explain(rt),
-        [word, script] if word.as_str() == "host" => over_simulator(rt, script.as_str()),
-        [word, script, recording] if word.as_str() == "host" => over_replay(
-            rt,
-            script.as_str(),
-            recording.as_str(),
-        ),
-        [word, manifest] if word.as_str() == "outline" => show_outline(rt, manifest.as_str()),
-        [word, ..] => Err(misused(rt, word.as_str())),
+    let Some((word, others)) = words.split_first() else {
+        return explain(rt);
+    };
+    match (word.as_str(), others) {
+        ("--help", []) => explain(rt),
+        ("host", [script]) => over_simulator(rt, script),
+        ("host", [script, recording]) => over_replay(rt, script, recording),
+        ("outline", [manifest]) => show_outline(rt, manifest),
+        (word, _) => Err(misused(rt, word)),
     }
 }
 
 // The words behind the program's own name.
 fn words_given(rt: &HostRuntime) -> io::Result<Vec<String>> {
-    let words = env::args(rt)?.skip(1).collect(rt.alloc())?;
-    Ok(words)
+    Ok(env::args(rt)?.skip(1).collect(rt.alloc())?)
 }
 
 fn explain(rt: &HostRuntime) -> Result<(), Failed> {

@@ -1,6 +1,5 @@
 // The words that calls begin with.
-ghost use Rattle.std.specs.Prelude.{◌≡◌, ℕ, Bool, List, Option};
-ghost use Rattle.std.specs.Str.{bytes_eq};
+ghost use Rattle.std.specs.Prelude.{◌≡◌, Option};
 ghost use Rattle.hetunawa.specs.Verbs.{verb_of};
 
 #[derive(Clone, Copy)]
@@ -27,11 +26,4 @@ pub fn verb_in(word: &[u8]) -> Option<Verb>
         b"break" => Some(Verb::BreakOff),
         _ => None,
     }
-}
-
-// Whether a word is this text.
-pub fn is(word: &[u8], text: &[u8]) -> bool
-    ensures { result ≡ bytes_eq word.now text.now }
-{
-    word == text
 }
