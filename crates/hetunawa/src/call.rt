@@ -7,7 +7,7 @@ ghost use Rattle.hetunawa.specs.declared.call.Unread.TheVariants.{Memory};
 ghost use Rattle.hetunawa.specs.Starts.{Reads, listed, lists_more, start_words, start_of, started_as, call_of};
 ghost use Rattle.script.specs.Texts.{words_of};
 
-use crate::verb::{Verb, is, verb_in};
+use crate::verb::{Verb, verb_in};
 use script::{Words, cut_at_colon, decimal, file_number, mark};
 use std::alloc::{AllocError, AllocFailed, Global};
 
@@ -60,16 +60,10 @@ pub fn call_of(heap: Global, line: &[u8]) -> Result<Call, Unread>
     ensures { Reads meaning (call_of line.now) result }
 {
     let mut words = Words::new(line);
-    let Some(word) = words.next() else {
-        return Err(Unread::NotUnderstood);
-    };
-    match verb_in(word) {
-        None => Err(Unread::NotUnderstood),
-        Some(Verb::Start) => Ok(Call::Start(start_of(heap, line)?)),
-        Some(verb) => match short_call(verb, words) {
-            Some(call) => Ok(call),
-            None => Err(Unread::NotUnderstood),
-        },
+    let verb = words.next().and_then(verb_in).ok_or(Unread::NotUnderstood)?;
+    match verb {
+        Verb::Start => Ok(Call::Start(start_of(heap, line)?)),
+        verb => short_call(verb, words).ok_or(Unread::NotUnderstood),
     }
 }
 
@@ -79,12 +73,12 @@ fn short_call(verb: Verb, words: Words<'_>) -> Option<Call>
 {
     match verb {
         Verb::Write => write_call(words),
-        Verb::Remove => Some(Call::Remove(only_file(words)?)),
-        Verb::Tell => Some(Call::Tell(only_file(words)?)),
+        Verb::Remove => only_file(words).map(Call::Remove),
+        Verb::Tell => only_file(words).map(Call::Tell),
         Verb::Clock => bare_call(Call::Clock, words),
         Verb::Start => None,
         Verb::Poll => bare_call(Call::Poll, words),
-        Verb::BreakOff => Some(Call::BreakOff(only_edge(words)?)),
+        Verb::BreakOff => only_edge(words).map(Call::BreakOff),
     }
 }
 
@@ -101,10 +95,7 @@ fn write_call(mut words: Words<'_>) -> Option<Call>
 fn bare_call(call: Call, mut words: Words<'_>) -> Option<Call>
     ensures { option_map meaning result ≡ bare_call (meaning call) (words_of words.entry.rest.now) }
 {
-    match words.next() {
-        None => Some(call),
-        Some(_) => None,
-    }
+    words.next().is_none().then_some(call)
 }
 
 fn only_file(words: Words<'_>) -> Option<usize>
@@ -120,27 +111,20 @@ fn only_edge(words: Words<'_>) -> Option<usize>
 }
 
 // The word that is left, if it is one.
-fn only_word<'a>(mut words: Words<'a>) -> Option<&'a [u8]>
+fn only_word(mut words: Words<'_>) -> Option<&[u8]>
     ensures { option_map (λ w. w.now) result ≡ only (words_of words.entry.rest.now) }
 {
     let word = words.next()?;
-    match words.next() {
-        None => Some(word),
-        Some(_) => None,
-    }
+    words.next().is_none().then_some(word)
 }
 
 // A start: its words stand before the line's first colon with a space behind it, its question behind that.
 fn start_of(heap: Global, line: &[u8]) -> Result<Start, Unread>
     ensures { Reads started_as (start_of line.now) result }
 {
-    let Some((head, text)) = cut_at_colon(line) else {
-        return Err(Unread::NotUnderstood);
-    };
+    let (head, text) = cut_at_colon(line).ok_or(Unread::NotUnderstood)?;
     let mut words = Words::new(head);
-    let Some(edge) = started_edge(&mut words) else {
-        return Err(Unread::NotUnderstood);
-    };
+    let edge = started_edge(&mut words).ok_or(Unread::NotUnderstood)?;
     let Lists { reads, outputs } = lists_of(heap, words)?;
     let question = Vec::from_slice(heap, text)?;
     Ok(Start {
@@ -157,11 +141,7 @@ fn started_edge(words: &mut Words<'_>) -> Option<usize>
 {
     let _ = words.next()?;
     let edge = decimal(words.next()?)?;
-    if is(words.next()?, b"reads") {
-        Some(edge)
-    } else {
-        None
-    }
+    (words.next()? == b"reads".as_slice()).then_some(edge)
 }
 
 // The files that a start reads and makes.
@@ -172,28 +152,20 @@ struct Lists {
 }
 
 // The files to read up to the word `outputs`, and those to make behind it.
-fn lists_of(heap: Global, words: Words<'_>) -> Result<Lists, Unread>
+fn lists_of(heap: Global, mut words: Words<'_>) -> Result<Lists, Unread>
     ensures { Reads listed (lists_more false [] [] (words_of words.entry.rest.now)) result }
 {
     let mut reads = Vec::new(heap);
-    let mut outputs = Vec::new(heap);
-    let mut making = false;
-    for word in words {
-        if !making && is(word, b"outputs") {
-            making = true;
-            continue;
+    'reads: loop {
+        let word = words.next().ok_or(Unread::NotUnderstood)?;
+        if word == b"outputs".as_slice() {
+            break;
         }
-        let Some(file) = decimal(word) else {
-            return Err(Unread::NotUnderstood);
-        };
-        if making {
-            outputs.push(file)?;
-        } else {
-            reads.push(file)?;
-        }
+        reads.push(decimal(word).ok_or(Unread::NotUnderstood)?)?;
     }
-    if !making {
-        return Err(Unread::NotUnderstood);
+    let mut outputs = Vec::new(heap);
+    'outputs: for word in words {
+        outputs.push(decimal(word).ok_or(Unread::NotUnderstood)?)?;
     }
     Ok(Lists { reads, outputs })
 }

@@ -67,24 +67,18 @@ pub fn run<B: Host, W: Write>(
 fn is_passed_over(line: &[u8]) -> bool
     ensures { result ≡ passed_over line.now }
 {
-    if is_comment(line) {
-        return true;
-    }
-    match Words::new(line).next() {
-        None => true,
-        Some(_) => false,
-    }
+    is_comment(line) || Words::new(line).next().is_none()
 }
 
 fn is_comment(line: &[u8]) -> bool
     ensures { result ≡ comment line.now }
 {
-    line.len() > 1 && line[0] == b'#' && line[1] == b' '
+    line.starts_with(b"# ")
 }
 
 // What a line answers. For want of memory it does nothing.
 fn answer_to<B: Host>(heap: Global, host: &mut B, line: &[u8]) -> Result<Answer, AllocError>
-    ensures { MatchResult result (λ a. Answers B.Host.capacity B.Host.makes (call_of line.now) (B.Host.state host.old) a (B.Host.state host.new)) (λ _. B.Host.state host.new ≡ B.Host.state host.old) }
+    ensures { MatchResult result (λ a. Answers B.Host.CAPACITY B.Host.makes (call_of line.now) (B.Host.state host.old) a (B.Host.state host.new)) (λ _. B.Host.state host.new ≡ B.Host.state host.old) }
 {
     match call_of(heap, line) {
         Ok(call) => Ok(perform(host, &call)),
@@ -97,8 +91,7 @@ fn answer_to<B: Host>(heap: Global, host: &mut B, line: &[u8]) -> Result<Answer,
 fn list_files<B: Host, W: Write>(host: &B, out: &mut W) -> io::Result<()> {
     for file in 0..FILES {
         if let Ok(Some(is)) = host.tell(file) {
-            let listed = Listed { file, is };
-            writeln!(out, "{listed}")?;
+            writeln!(out, "{}", Listed { file, is })?;
         }
     }
     Ok(())

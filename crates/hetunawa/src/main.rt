@@ -34,35 +34,27 @@ fn main(rt: HostRuntime) -> ExitCode {
 
 // Does what the words of the call say.
 fn obey(rt: &HostRuntime) -> Result<(), Failed> {
-    let words = match words_given(rt) {
-        Ok(words) => words,
-        Err(error) => return Err(complain(rt, "the words of the call", error)),
+    let words = words_given(rt).map_err(|error| complain(rt, "the words of the call", error))?;
+    let Some((word, others)) = words.split_first() else {
+        return explain(rt);
     };
-    match words.as_slice() {
-        [] => explain(rt),
-        [word] if word.as_str() == "--help" => explain(rt),
-        [word, script] if word.as_str() == "host" => over_simulator(rt, script.as_str()),
-        [word, script, recording] if word.as_str() == "host" => over_replay(
-            rt,
-            script.as_str(),
-            recording.as_str(),
-        ),
-        [word, manifest] if word.as_str() == "outline" => show_outline(rt, manifest.as_str()),
-        [word, ..] => Err(misused(rt, word.as_str())),
+    match (word.as_str(), others) {
+        ("--help", []) => explain(rt),
+        ("host", [script]) => over_simulator(rt, script),
+        ("host", [script, recording]) => over_replay(rt, script, recording),
+        ("outline", [manifest]) => show_outline(rt, manifest),
+        (word, _) => Err(misused(rt, word)),
     }
 }
 
 // The words behind the program's own name.
 fn words_given(rt: &HostRuntime) -> io::Result<Vec<String>> {
-    let words = env::args(rt)?.skip(1).collect(rt.alloc())?;
-    Ok(words)
+    Ok(env::args(rt)?.skip(1).collect(rt.alloc())?)
 }
 
 fn explain(rt: &HostRuntime) -> Result<(), Failed> {
-    match rt.print(help::TEXT) {
-        Ok(()) => Ok(()),
-        Err(error) => Err(complain(rt, "standard output", error)),
-    }
+    rt.print(help::TEXT)
+        .map_err(|error| complain(rt, "standard output", error))
 }
 
 // Tells why words were not understood.
@@ -88,45 +80,45 @@ fn complain<D: Display + Drop>(rt: &HostRuntime, what: &str, why: D) -> Failed {
     Failed
 }
 
+// Tells on standard output what was refused.
+fn refuse<D: Display + Drop>(rt: &HostRuntime, what: D) -> Failed {
+    let _ = println!(rt; "refused {what}");
+    Failed
+}
+
 // Does a script of host calls on a fresh simulator.
 fn over_simulator(rt: &HostRuntime, script: &str) -> Result<(), Failed> {
     let calls = read(rt, script)?;
-    match Simulator::new(rt.alloc()) {
-        Ok(mut simulator) => play(rt, &mut simulator, script, &calls),
-        Err(_) => Err(complain(rt, script, Fault::Memory)),
-    }
+    let mut simulator = Simulator::new(rt.alloc()).map_err(|_| complain(
+        rt,
+        script,
+        Fault::Memory,
+    ))?;
+    play(rt, &mut simulator, script, &calls)
 }
 
 // Does a script of host calls on a replay of a recording.
 fn over_replay(rt: &HostRuntime, script: &str, recording: &str) -> Result<(), Failed> {
     let calls = read(rt, script)?;
     let endings = read(rt, recording)?;
-    match Replay::new(rt.alloc(), &endings) {
-        Ok(mut replay) => play(rt, &mut replay, script, &calls),
-        Err(replay::Fault::Memory) => Err(complain(rt, recording, Fault::Memory)),
-        Err(replay::Fault::Malformed) => {
-            let _ = println!(rt; "refused {MALFORMED}");
-            Err(Failed)
-        }
-    }
+    let mut replay = Replay::new(rt.alloc(), &endings).map_err(|fault| match fault {
+        replay::Fault::Memory => complain(rt, recording, Fault::Memory),
+        replay::Fault::Malformed => refuse(rt, MALFORMED),
+    })?;
+    play(rt, &mut replay, script, &calls)
 }
 
 // Prints a line for each statement of a manifest, or its first fault.
 fn show_outline(rt: &HostRuntime, path: &str) -> Result<(), Failed> {
     let bytes = read(rt, path)?;
-    match text::manifest(rt.alloc(), &bytes) {
-        Ok(statements) => match print_lines(rt, &statements) {
-            Ok(()) => Ok(()),
-            Err(error) => Err(complain(rt, path, error)),
-        },
-        Err(Refusal::Faulty(fault)) => {
-            let number = fault.number();
-            let place = fault.place().byte;
-            let _ = println!(rt; "refused {number} at {place}");
-            Err(Failed)
-        }
-        Err(Refusal::Memory) => Err(complain(rt, path, Fault::Memory)),
-    }
+    let statements = text::manifest(rt.alloc(), &bytes).map_err(|refusal| match refusal {
+        Refusal::Faulty(fault) => refuse(
+            rt,
+            format_args!("{} at {}", fault.number(), fault.place().byte),
+        ),
+        Refusal::Memory => complain(rt, path, Fault::Memory),
+    })?;
+    print_lines(rt, &statements).map_err(|error| complain(rt, path, error))
 }
 
 fn print_lines(rt: &HostRuntime, statements: &[Statement<'_>]) -> io::Result<()> {
@@ -139,19 +131,15 @@ fn print_lines(rt: &HostRuntime, statements: &[Statement<'_>]) -> io::Result<()>
 }
 
 fn read(rt: &HostRuntime, path: &str) -> Result<Vec<u8>, Failed> {
-    match fs::read(rt, path) {
-        Ok(bytes) => Ok(bytes),
-        Err(error) => Err(complain(rt, path, error)),
-    }
+    fs::read(rt, path).map_err(|error| complain(rt, path, error))
 }
 
 // Does the calls of a script on a host, and prints the answers.
 fn play<B: Host>(rt: &HostRuntime, host: &mut B, script: &str, calls: &[u8]) -> Result<(), Failed> {
-    let Ok(mut out) = BufWriter::new(rt.alloc(), rt.stdout()) else {
-        return Err(complain(rt, script, Fault::Memory));
-    };
-    match hostscript::run(rt.alloc(), host, calls, &mut out) {
-        Ok(()) => Ok(()),
-        Err(fault) => Err(complain(rt, script, fault)),
-    }
+    let mut out = BufWriter::new(rt.alloc(), rt.stdout()).map_err(|_| complain(
+        rt,
+        script,
+        Fault::Memory,
+    ))?;
+    hostscript::run(rt.alloc(), host, calls, &mut out).map_err(|fault| complain(rt, script, fault))
 }

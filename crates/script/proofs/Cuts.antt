@@ -23,7 +23,7 @@ cut_on h b bs n = cond-false (eqb b 58 && spaced bs) (Some (h, drop 1 bs)) (cut_
     | inr out ↦ and_left (eqb b 58) (spaced bs) out
   ]
 
-pub cut_at : (h line : List ℕ) (i : ℕ) → i + 1 < length line → get_or line i 0 ≡ 58 → get_or line (i + 1) 0 ≡ 32 → ((j : ℕ) → j < i → get_or line j 0 ≡ 58 → get_or line (j + 1) 0 ≡ 32 → ⊥) → cut_from h line ≡ Some (h ++ take i line, drop (i + 2) line)
+cut_at : (h line : List ℕ) (i : ℕ) → i + 1 < length line → get_or line i 0 ≡ 58 → get_or line (i + 1) 0 ≡ 32 → ((j : ℕ) → j < i → get_or line j 0 ≡ 58 → get_or line (j + 1) 0 ≡ 32 → ⊥) → cut_from h line ≡ Some (h ++ take i line, drop (i + 2) line)
 cut_at h [] i l c s before = absurd (omega arith)
 cut_at h (b ∷ bs) zero l c s before = cut_here h b bs c (omega arith) s ∙ ap (λ (v : List ℕ). Some (v, drop 1 bs)) (sym (append-nil h))
 cut_at h (b ∷ bs) (suc i) l c s before =
@@ -52,9 +52,6 @@ cut_none h (b ∷ bs) n = cut_on h b bs (λ e l s. n 0 (omega arith) e s) ∙ cu
   moved j e = ap (λ (k : ℕ). get_or (b ∷ bs) k 0) (one j) ∙ e
 
 -- the parts, as slices of the line have them
-pub cut_made : (line : List ℕ) (i : ℕ) → Colon line i → NoColon line (i + 1) → Some (take (i - 0) line, take (length line - (i + 2)) (drop (i + 2) line)) ≡ cut_of line
+pub cut_made : (line : List ℕ) (i : ℕ) → Colon line i → NoColon line (i + 1) → Some (take i line, take (length line - (i + 2)) (drop (i + 2) line)) ≡ cut_of line
 cut_made line i c n =
-    ap (λ (k : ℕ). Some (take k line, take (length line - (i + 2)) (drop (i + 2) line))) same
-    ∙ (ap (λ (v : List ℕ). Some (take i line, v)) (take_rest line (i + 2)) ∙ sym (cut_at [] line i c.0 c.1 c.2 (λ j l. n j (omega arith)))) where
-      same : i - 0 ≡ i
-      same = omega arith
+    ap (λ (v : List ℕ). Some (take i line, v)) (take_rest line (i + 2)) ∙ sym (cut_at [] line i c.0 c.1 c.2 (λ j l. n j (omega arith)))

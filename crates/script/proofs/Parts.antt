@@ -1,93 +1,72 @@
 -- Lines and words, by the places where they are cut.
-use Rattle.std.proofs.Common.{◌≡◌, ℕ, zero, suc, ◌+◌, ◌-◌, ◌<◌, ◌≤◌, eqb, List, [], ◌∷◌, ◌++◌, length, get_or, take, drop, sym, refl, ap, ◌∙◌, arith}
-use Rattle.std.proofs.lemmas.List.{append-nil, append_assoc, length-drop, get_or-drop, drop-drop, take_all}
-use Rattle.std.proofs.lemmas.Bool.{cond-true, cond-false, eq-eqb, ne_eqb}
+use Rattle.std.proofs.Common.{◌≡◌, ℕ, suc, ◌+◌, ◌<◌, ◌≤◌, not, eqb, List, [], ◌∷◌, ◌++◌, length, take, drop, Some, None, refl, ◌∙◌, inl, inr, arith, cond, ltb}
+use Rattle.std.specs.List.{position, position_or_len}
+use Rattle.std.proofs.lemmas.List.{append-nil, append_assoc, length-drop, length-append}
+use Rattle.std.proofs.lemmas.Bool.{cases_Bool}
+use Rattle.std.proofs.lemmas.Bool.Decides.{nat_tests}
 use Rattle.script.specs.Texts.{word_before, words_from, words_of, lines_from, lines_of}
 
--- one byte of a line
-words_space : (w : List ℕ) (b : ℕ) (bs : List ℕ) → b ≡ 32 → words_from w (b ∷ bs) ≡ word_before w (words_of bs)
-words_space w b bs e = cond-true (eqb b 32) (word_before w (words_from [] bs)) (words_from (w ++ (b ∷ [])) bs) (eq-eqb b 32 e)
+-- the place of the first such byte, or the length
+abbrev pub place : ℕ → List ℕ → ℕ
+place byte bs = position_or_len (λ b. eqb b byte) bs
 
-words_byte : (w : List ℕ) (b : ℕ) (bs : List ℕ) → (b ≡ 32 → ⊥) → words_from w (b ∷ bs) ≡ words_from (w ++ (b ∷ [])) bs
-words_byte w b bs e = cond-false (eqb b 32) (word_before w (words_from [] bs)) (words_from (w ++ (b ∷ [])) bs) (ne_eqb b 32 e)
-
--- spaces in front are nothing
-pub words_skip : (bs : List ℕ) (k : ℕ) → k ≤ length bs → ((j : ℕ) → j < k → get_or bs j 0 ≡ 32) → words_of (drop k bs) ≡ words_of bs
-words_skip bs zero h all = refl
-words_skip [] (suc k) h all = absurd (omega arith)
-words_skip (b ∷ bs) (suc k) h all =
-    words_skip bs k (omega arith) (λ j l. all (suc j) (omega arith)) ∙ sym (words_space [] b bs (all 0 (omega arith)))
-
--- a word goes up to the first space
-pub words_cut : (w bs : List ℕ) (p : ℕ) → p ≤ length bs → ((j : ℕ) → j < p → get_or bs j 0 ≡ 32 → ⊥) → (p < length bs → get_or bs p 0 ≡ 32) → words_from w bs ≡ word_before (w ++ take p bs) (words_of (drop p bs))
-words_cut w [] zero h before found = ap (λ (v : List ℕ). word_before v []) (sym (append-nil w))
-words_cut w [] (suc p) h before found = absurd (omega arith)
-words_cut w (b ∷ bs) zero h before found =
-    words_space w b bs (found (omega arith))
-    ∙ (ap (λ (v : List ℕ). word_before v (words_of bs)) (sym (append-nil w)) ∙ ap (word_before (w ++ [])) (sym (words_space [] b bs (found (omega arith)))))
-words_cut w (b ∷ bs) (suc p) h before found =
-    words_byte w b bs (before 0 (omega arith))
-    ∙ (words_cut (w ++ (b ∷ [])) bs p (omega arith) (λ j l. before (suc j) (omega arith)) (λ l. found (omega arith))
-    ∙ ap (λ (v : List ℕ). word_before v (words_of (drop p bs))) (append_assoc w (b ∷ []) (take p bs)))
-
--- the first word of a line, k spaces in, ends at p
-pub first_word : (line rest : List ℕ) (k p : ℕ) → k ≤ length line → ((j : ℕ) → j < k → get_or line j 0 ≡ 32) → rest ≡ drop k line → p ≤ length rest → ((j : ℕ) → j < p → get_or rest j 0 ≡ 32 → ⊥) → (p < length rest → get_or rest p 0 ≡ 32) → words_of line ≡ word_before (take p rest) (words_of (drop p rest))
-first_word line rest k p h all e g before found = sym (words_skip line k h all) ∙ (ap words_of (sym e) ∙ words_cut [] rest p g before found)
-
-pub word_some : (w : List ℕ) (ws : List (List ℕ)) → 0 < length w → word_before w ws ≡ w ∷ ws
-word_some [] ws h = absurd (omega arith)
-word_some (b ∷ w) ws h = refl
-
--- where the first word is empty there is none
-pub no_word : (line rest : List ℕ) (k p : ℕ) → k ≤ length line → ((j : ℕ) → j < k → get_or line j 0 ≡ 32) → (k < length line → get_or line k 0 ≡ 32 → ⊥) → rest ≡ drop k line → p ≡ 0 → (p < length rest → get_or rest p 0 ≡ 32) → words_of line ≡ []
-no_word line [] k p h all stops e z found = sym (words_skip line k h all) ∙ ap words_of (sym e)
-no_word line (b ∷ bs) k p h all stops e z found = absurd (stops inside (sym here ∙ space)) where
-  long : length (b ∷ bs) ≡ length line - k
-  long = ap length e ∙ length-drop k line
-
-  inside : k < length line
-  inside = omega (arith, long)
-
-  here : b ≡ get_or line k 0
-  here = ap (λ (v : List ℕ). get_or v 0 0) e ∙ (get_or-drop k line 0 0 ∙ ap (λ (i : ℕ). get_or line i 0) (omega arith))
-
-  space : b ≡ 32
-  space = sym (ap (λ (i : ℕ). get_or (b ∷ bs) i 0) z) ∙ found (omega arith)
+one_more : (n : ℕ) → 1 + n ≡ suc n
+one_more n = omega arith
 
 -- a line goes up to its line end
-lines_cut : (l bs : List ℕ) (p : ℕ) → p < length bs → ((j : ℕ) → j < p → get_or bs j 0 ≡ 10 → ⊥) → get_or bs p 0 ≡ 10 → lines_from l bs ≡ (l ++ take p bs) ∷ lines_of (drop (suc p) bs)
-lines_cut l [] p h before found = absurd (omega arith)
-lines_cut l (b ∷ bs) zero h before found =
-    cond-true (eqb b 10) (l ∷ lines_from [] bs) (lines_from (l ++ (b ∷ [])) bs) (eq-eqb b 10 found) ∙ ap (λ (v : List ℕ). v ∷ lines_of bs) (sym (append-nil l))
-lines_cut l (b ∷ bs) (suc p) h before found =
-    cond-false (eqb b 10) (l ∷ lines_from [] bs) (lines_from (l ++ (b ∷ [])) bs) (ne_eqb b 10 (before 0 (omega arith)))
-    ∙ (lines_cut (l ++ (b ∷ [])) bs p (omega arith) (λ j h'. before (suc j) (omega arith)) found
-    ∙ ap (λ (v : List ℕ). v ∷ lines_of (drop (suc p) bs)) (append_assoc l (b ∷ []) (take p bs)))
-
-lines_last : (l bs : List ℕ) → ((j : ℕ) → j < length bs → get_or bs j 0 ≡ 10 → ⊥) → lines_from l bs ≡ word_before (l ++ bs) []
-lines_last l [] before = ap (λ (v : List ℕ). word_before v []) (sym (append-nil l))
-lines_last l (b ∷ bs) before =
-    cond-false (eqb b 10) (l ∷ lines_from [] bs) (lines_from (l ++ (b ∷ [])) bs) (ne_eqb b 10 (before 0 (omega arith)))
-    ∙ (lines_last (l ++ (b ∷ [])) bs (λ j h'. before (suc j) (omega arith)) ∙ ap (λ (v : List ℕ). word_before v []) (append_assoc l (b ∷ []) bs))
+lines_cut : (l bs : List ℕ) → 0 < length l + length bs → lines_from l bs ≡ (l ++ take (place 10 bs) bs) ∷ lines_of (drop 1 (drop (place 10 bs) bs))
+lines_cut [] [] h = absurd (omega arith)
+lines_cut (b ∷ l) [] h = simp append-nil
+lines_cut l (b ∷ bs) h = elim (cases_Bool (eqb b 10)) [
+  | inl on ↦ simp (on, append-nil)
+  | inr off ↦ simp (off, one_more) (lines_cut (l ++ (b ∷ [])) bs (omega (arith, length-append l (b ∷ []))) ∙ simp append_assoc)
+]
 
 -- the first line of a script that is not at its end
-pub first_line : (bs after : List ℕ) (p : ℕ) → 0 < length bs → p ≤ length bs → ((j : ℕ) → j < p → get_or bs j 0 ≡ 10 → ⊥) → (p < length bs → get_or bs p 0 ≡ 10) → after ≡ drop p bs → lines_of bs ≡ take p bs ∷ lines_of (drop 1 after)
-first_line bs [] p some h before found e =
-    lines_last [] bs (λ j l. before j (omega (arith, all)))
-    ∙ (word_some bs [] some ∙ ap (λ (v : List ℕ). v ∷ []) (sym (take_all p bs all))) where
-      all : length bs ≤ p
-      all = omega (arith, ap length e ∙ length-drop p bs)
-first_line bs (a ∷ after) p some h before found e =
-    lines_cut [] bs p inside before (found inside) ∙ ap (λ (v : List ℕ). take p bs ∷ lines_of v) (sym rest) where
-      inside : p < length bs
-      inside = omega (arith, ap length e ∙ length-drop p bs)
+pub first_line : (script : List ℕ) → 0 < length script → lines_of script ≡ take (place 10 script) script ∷ lines_of (drop 1 (drop (place 10 script) script))
+first_line script h = lines_cut [] script (omega (arith, h))
 
-      next : p + 1 ≡ suc p
-      next = omega arith
+-- a word goes up to the first space
+words_cut : (w bs : List ℕ) → words_from w bs ≡ word_before (w ++ take (place 32 bs) bs) (words_of (drop (place 32 bs) bs))
+words_cut w [] = simp append-nil
+words_cut w (b ∷ bs) = elim (cases_Bool (eqb b 32)) [
+  | inl on ↦ simp (on, append-nil)
+  | inr off ↦ simp (off, one_more) (words_cut (w ++ (b ∷ [])) bs ∙ simp append_assoc)
+]
 
-      rest : after ≡ drop (suc p) bs
-      rest = ap (drop 1) e ∙ (drop-drop 1 p bs ∙ ap (λ (k : ℕ). drop k bs) next)
+-- the place of the first byte that is no space, or the length
+abbrev pub start : List ℕ → ℕ
+start bs = position_or_len (λ b. not (eqb b 32)) bs
 
-pub no_lines : (bs : List ℕ) → length bs ≡ 0 → lines_of bs ≡ []
-no_lines [] z = refl
-no_lines (b ∷ bs) z = absurd (omega arith)
+-- there is no word where only spaces are
+words_none : (bs : List ℕ) → length bs ≤ start bs → words_of bs ≡ []
+words_none [] h = refl
+words_none (b ∷ bs) h = elim (cases_Bool (eqb b 32)) [
+  | inl on ↦ simp on (words_none bs (omega (arith, simp on at h)))
+  | inr off ↦ absurd (omega (arith, simp off at h))
+]
+
+-- otherwise the first word begins there
+words_some : (bs : List ℕ) → start bs < length bs
+    → (words_of bs ≡ take (place 32 (drop (start bs) bs)) (drop (start bs) bs) ∷ words_of (drop (place 32 (drop (start bs) bs)) (drop (start bs) bs)))
+    × (length (drop (place 32 (drop (start bs) bs)) (drop (start bs) bs)) < length bs)
+words_some [] h = absurd (omega arith)
+words_some (b ∷ bs) h = elim (cases_Bool (eqb b 32)) [
+  | inl on ↦ let later = words_some bs (omega (arith, simp on at h)) in simp (on, one_more) (later.0, omega (arith, later.1))
+  | inr off ↦ simp (off, one_more) (words_cut (b ∷ []) bs, omega (arith, length-drop (place 32 bs) bs))
+]
+
+none_found : (p n : ℕ) → cond (ltb p n) (Some p) None ≡ None → n ≤ p
+none_found p n e = grind (arith, nat_tests)
+
+found_at : (p n i : ℕ) → cond (ltb p n) (Some p) None ≡ Some i → (i ≡ p) × (p < n)
+found_at p n i e = grind (arith, nat_tests)
+
+pub no_word : (line : List ℕ) → position (λ b. not (eqb b 32)) line ≡ None → words_of line ≡ []
+no_word line e = words_none line (none_found (start line) (length line) e)
+
+pub first_word : (line from word rest : List ℕ) (i : ℕ) → position (λ b. not (eqb b 32)) line ≡ Some i → from ≡ drop i line → word ≡ take (place 32 from) from → rest ≡ drop (place 32 from) from
+    → (words_of line ≡ word ∷ words_of rest) × (length rest < length line)
+first_word line from word rest i e d f g =
+    let at = found_at (start line) (length line) i e in
+    simp (f, g, d, at.0) (words_some line at.1)

@@ -1,18 +1,17 @@
 -- Which number a word of decimal digits is. Assumes nothing.
-use Rattle.std.specs.Prelude.{ℕ, ◌+◌, ◌-◌, ◌*◌, min, Bool, true, cond, ◌&&◌, List, [], ◌∷◌, Some, None, Option, ◌==◌, nat_le, nat_lt}
+use Rattle.std.specs.Prelude.{ℕ, ◌+◌, ◌-◌, ◌*◌, min, Bool, cond, ◌&&◌, List, [], ◌∷◌, Some, None, Option, ◌==◌, nat_le, nat_lt}
+use Rattle.std.specs.List.{list_all, fold}
 
 -- whether a byte is one of `0` to `9`
 abbrev pub is_digit : ℕ → Bool
 is_digit b = nat_le 48 b && nat_le b 57
 
 abbrev pub all_digits : List ℕ → Bool
-all_digits [] = true
-all_digits (b ∷ bs) = is_digit b && all_digits bs
+all_digits bs = list_all is_digit bs
 
 -- a number with some digits more behind it
 abbrev pub digits_more : ℕ → List ℕ → ℕ
-digits_more n [] = n
-digits_more n (b ∷ bs) = digits_more (n * 10 + (b - 48)) bs
+digits_more n bs = fold (λ m b. m * 10 + (b - 48)) n bs
 
 -- one digit or more is a number, held to 64 bits; anything else is none
 abbrev pub decimal_of : List ℕ → Option ℕ
