@@ -9,7 +9,7 @@ use byteclass::{in_pool, in_rule};
 use cursor::{Cursor, Fault, Lead, Opens, Place};
 use std::alloc::Global;
 
-// What a line means for the block that is open.
+// What a line means for the block that is open. No Option says all three.
 #[derive(Clone, Copy)]
 pub enum Line<'a> {
     // the block ends before the line, or with it

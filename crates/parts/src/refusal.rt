@@ -1,4 +1,6 @@
 // Why a call that allocates answers nothing.
+// The error types of other crates look alike; one generic type would need these impls of From again for each fault, since one for all E
+// would meet that of the allocator.
 ghost use Rattle.std.specs.Prelude.{◌≡◌};
 ghost use Rattle.parts.specs.declared.refusal.Refusal.TheVariants.{Faulty, Memory};
 
