@@ -3,7 +3,7 @@ use Rattle.text.specs.Text.{Answers, manifest_of}
 use Rattle.text.proofs.Law.{admits}
 use Rattle.text.proofs.Place.{placed}
 use Rattle.text.proofs.Refused.{whole, none_whole}
-use Rattle.text.proofs.reading.whole.Goals as goal
+use Rattle.text.proofs.reading.manifest.Goals as goal
 
 pub returns-in_err-check : goal.returns-in_err-check
 returns-in_err-check c =
@@ -14,5 +14,5 @@ returns-in_err-check c =
 
 pub returns : goal.returns
 returns c =
-    let h = whole c.all_statements.result c.all_statements.new.c c.args.text.now _ _ c.start-c.ensures.at c.start-c.ensures.rest c.in_ok-check.ensures c.all_statements.ensures in
+    let h = whole c.all_statements.result c.all_statements.new.c c.args.text.now _ _ c.start.ensures.at c.start.ensures.rest c.in_ok-check.ensures c.all_statements.ensures in
     record { says = h; admits = admits c.all_statements.result c.args.text.now h; placed = placed c.all_statements.result c.args.text.now h }
