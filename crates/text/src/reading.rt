@@ -80,12 +80,20 @@ fn all_statements<'a>(heap: Global, c: &mut Cursor<'a>) -> Result<Vec<Statement<
     Ok(all)
 }
 
+// All statements of a text, or its first fault.
+fn whole<'a>(heap: Global, text: &'a [u8]) -> Result<Vec<Statement<'a>>, Refusal>
+    ensures { Answers result (manifest_of text.now) }
+{
+    check(text)?;
+    all_statements(heap, &mut start(text))
+}
+
 // All statements of a text: those, and only those, that the grammar gives it.
+#[tactic(auto, using(crate::proofs::Law::admits, crate::proofs::Place::placed))]
 pub fn manifest<'a>(heap: Global, text: &'a [u8]) -> Result<Vec<Statement<'a>>, Refusal>
     ensures says { Answers result (manifest_of text.now) }
     ensures admits { Admits result text.now }
     ensures placed { Placed result text.now }
 {
-    check(text)?;
-    all_statements(heap, &mut start(text))
+    whole(heap, text)
 }
