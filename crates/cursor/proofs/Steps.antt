@@ -1,16 +1,15 @@
 -- One byte on, for each definition that goes byte by byte: s is what is left before, and t after.
-use Rattle.std.proofs.Common.{◌≡◌, ℕ, zero, suc, ◌+◌, ◌-◌, ◌<◌, ◌≤◌, Bool, true, false, cond, ◌&&◌, ◌==◌, eqb, nat_lt, Some, None, ◌⊎◌, List, [], ◌∷◌, length, get_or, take, drop, refl, ap, ◌∙◌, arith}
+use Rattle.std.proofs.Common.{◌≡◌, ℕ, zero, suc, ◌+◌, ◌-◌, ◌<◌, ◌≤◌, Bool, true, false, cond, ◌==◌, nat_lt, Some, None, List, [], ◌∷◌, length, get_or, take, drop, refl, ap, ◌∙◌, arith}
 use Rattle.std.specs.List.{prefix_len, position, position_or_len, take_while}
 use Rattle.std.proofs.lemmas.List.Quantifiers.{position-Some}
 use Rattle.std.proofs.lemmas.List.Sums.{fails_before_first}
 use Rattle.std.proofs.lemmas.List.Folds.{length-prefix_len}
-use Rattle.std.proofs.lemmas.List.{drop_more, drop_all, take_rest}
-use Rattle.std.proofs.lemmas.Bool.{eq-eqb, ne_eqb, eqb-true, ltb-false, and_parts, cond_both, false≢true}
-use Rattle.std.proofs.lemmas.Bool.Decides.{nat_tests}
+use Rattle.std.proofs.lemmas.List.{take_rest}
+use Rattle.std.proofs.lemmas.Bool.{eq-eqb, ne_eqb, ltb-false, cond_both, false≢true}
 use Rattle.byteclass.specs.Class.{name_byte}
-use Rattle.cursor.specs.Scan.{ok, bad, spot, name_len, name, spaces, gap, comment, scan, walk, wraps, stops, braced, escaped}
+use Rattle.cursor.specs.Scan.{ok, bad, spot, name_len, name, gap, comment, scan, walk, wraps, escaped}
 use Rattle.cursor.specs.declared.place.Opens.{Opens}
-use Rattle.cursor.specs.declared.place.Fault.TheVariants.{Syntax, Dollar}
+use Rattle.cursor.specs.declared.place.Fault.TheVariants.{Syntax}
 
 name_prefix : (s : List ℕ) → prefix_len name_byte s ≡ name_len s
 name_prefix [] = refl
@@ -110,4 +109,3 @@ walk_plain true i j (b ∷ []) t h n1 n2 n3 n4 n5 p q = rw (p, q, ne_eqb b 32 n1
 walk_plain false i j (b ∷ []) t h n1 n2 n3 n4 n5 p q = rw (p, q, ne_eqb b 32 n1, ne_eqb b 58 n2, ne_eqb b 124 n3, ne_eqb b 10 n4, ne_eqb b 36 n5)
 walk_plain true i j (b ∷ c ∷ s) t h n1 n2 n3 n4 n5 p q = rw (p, q, ne_eqb b 32 n1, ne_eqb b 58 n2, ne_eqb b 124 n3, ne_eqb b 10 n4, ne_eqb b 36 n5)
 walk_plain false i j (b ∷ c ∷ s) t h n1 n2 n3 n4 n5 p q = rw (p, q, ne_eqb b 32 n1, ne_eqb b 58 n2, ne_eqb b 124 n3, ne_eqb b 10 n4, ne_eqb b 36 n5)
-

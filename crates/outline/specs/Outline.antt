@@ -1,5 +1,5 @@
 -- What people are shown of a manifest.
-use Rattle.std.specs.Prelude.{◌≡◌, ℕ, cond, List, [], ◌∷◌, ◌++◌, map, Ok, Err, vec_items, codes, decimal, Result, Vec, ◌==◌}
+use Rattle.std.specs.Prelude.{◌≡◌, ℕ, cond, List, [], ◌∷◌, ◌++◌, Ok, Err, vec_items, codes, decimal, Result, Vec, ◌==◌}
 use Rattle.std.specs.declared.alloc.AllocError.{AllocError}
 use Rattle.std.specs.declared.alloc.Global.{Global}
 use Rattle.cursor.specs.Scan.{Out, ok, bad, numbered}

@@ -144,7 +144,7 @@ fn put_lines(out: &mut Vec<u8>, all: &[Statement]) -> Result<(), AllocError>
     Ok(())
 }
 
-// The line of a statement.
+// The line of a statement. A function that serves this one and `fault_line` would take a closure that changes the vector, and be longer than both.
 pub fn line(heap: Global, x: &Statement) -> Result<Vec<u8>, AllocError>
     ensures { Shows result (line_of (stated_of x.now)) }
 {

@@ -1,7 +1,7 @@
 // Variables that are set, in a block or in the file, and the lines around them.
 ghost use Rattle.std.specs.Prelude.{◌≡◌, [], map};
 ghost use Rattle.cursor.specs.Scan.{told};
-ghost use Rattle.parts.specs.Parts.{Tells, entry_of, set_to, takes, set_in, setting, block_turn, turn_in, block, skip_turn, skipped, passed};
+ghost use Rattle.parts.specs.Parts.{Tells, entry_of, set_to, takes, setting, block_turn, turn_in, block, skip_turn, skipped, passed};
 
 use crate::kinds::{Binding, Block};
 use crate::refusal::Refusal;

@@ -1,5 +1,5 @@
 // Lists of paths, as they stand in a build statement.
-ghost use Rattle.std.specs.Prelude.{◌≡◌, [], map};
+ghost use Rattle.std.specs.Prelude.{◌≡◌, []};
 ghost use Rattle.parts.specs.Parts.{Tells, paths, paths_of, some_paths, open_after, outputs, outs_of, inputs, ins_of};
 
 use crate::kinds::{Inputs, Outputs};
