@@ -1,6 +1,5 @@
 // Why a call that allocates answers nothing.
-// The error types of other crates look alike; one generic type would need these impls of From again for each fault, since one for all E
-// would meet that of the allocator.
+// Errors of other crates look alike, but one type for all needs these impls for each fault: a `From<E>` for every E meets that of the allocator.
 ghost use Rattle.std.specs.Prelude.{◌≡◌};
 ghost use Rattle.parts.specs.declared.refusal.Refusal.TheVariants.{Faulty, Memory};
 
