@@ -1,4 +1,4 @@
--- Bytes that are no word, and bytes that are no text.
+-- Bytes that are no text are no word.
 use Rattle.std.proofs.Common.{◌≡◌, ℕ, Bool, true, false, ◌&&◌, ltb, List, [], ◌∷◌, codes, IsUtf8, IsAscii, sym, refl, subst, ⊎_elim}
 use Rattle.std.specs.Str.{bytes_eq}
 use Rattle.std.proofs.lemmas.Str.{IsUtf8-from_ascii}
@@ -7,9 +7,6 @@ use Rattle.std.proofs.lemmas.Slice.Eq.{bytes_eq-Decides}
 use Rattle.std.proofs.lemmas.Bool.{cases_Bool, and_parts, ltb-true}
 use Rattle.byteclass.specs.Words.{word_tests, rule_tests, pool_tests}
 use Rattle.byteclass.specs.declared.words.Word.TheVariants.{Plain}
-
-pub not_same : (xs ys : List ℕ) → (xs ≡ ys → ⊥) → bytes_eq xs ys ≡ false
-not_same xs ys n = ⊎_elim (λ t. absurd (n ((bytes_eq-Decides xs ys).0 t))) (λ f. f) (cases_Bool (bytes_eq xs ys))
 
 abbrev low : List ℕ → Bool
 low [] = true
@@ -21,7 +18,8 @@ low_ascii (b ∷ s) e = let p = and_parts (ltb b 128) (low s) e in IsAscii-cons 
 
 -- what is no text is no word of ASCII
 no_word : (n w : List ℕ) → (IsUtf8 n → ⊥) → low w ≡ true → bytes_eq n w ≡ false
-no_word n w none l = not_same n w (λ e. none (subst IsUtf8 (sym e) (IsUtf8-from_ascii w (low_ascii w l))))
+no_word n w none l =
+    ⊎_elim (λ t. absurd (none (subst IsUtf8 (sym ((bytes_eq-Decides n w).0 t)) (IsUtf8-from_ascii w (low_ascii w l))))) (λ f. f) (cases_Bool (bytes_eq n w))
 
 pub plain_word : (n : List ℕ) → (IsUtf8 n → ⊥) → Plain ≡ word_tests n
 plain_word n none =

@@ -66,30 +66,21 @@ impl Class {
     pub fn in_name(self) -> bool
         ensures { result ≡ name_class self }
     {
-        match self {
-            Simple | Dot => true,
-            Banned | End | Space | Dollar | Mark | Other => false,
-        }
+        matches!(self, Simple | Dot)
     }
 
     // Whether bytes of the class stand in a name that follows a `$` with no braces.
     pub fn in_simple_name(self) -> bool
         ensures { result ≡ simple_class self }
     {
-        match self {
-            Simple => true,
-            _ => false,
-        }
+        matches!(self, Simple)
     }
 
     // Whether no manifest may hold bytes of the class.
     pub fn in_none(self) -> bool
         ensures { result ≡ banned_class self }
     {
-        match self {
-            Banned => true,
-            End | Space | Dollar | Dot | Simple | Mark | Other => false,
-        }
+        matches!(self, Banned)
     }
 }
 

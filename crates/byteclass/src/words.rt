@@ -1,6 +1,6 @@
 // The words that have a meaning of their own: at a line's start, and in the block of a rule or a pool.
 ghost use Rattle.std.specs.Prelude.{◌≡◌};
-ghost use Rattle.byteclass.specs.Words.{word_tests, rule_tests, pool_tests, word_of, rule_takes, pool_takes};
+ghost use Rattle.byteclass.specs.Words.{word_tests, rule_tests, word_of, rule_takes, pool_takes};
 
 #[derive(Clone, Copy)]
 pub enum Word {
@@ -13,7 +13,7 @@ pub enum Word {
     Plain,
 }
 
-// The statement that a name at a line's start begins.
+// The statement that a text at a line's start begins.
 fn word_of(name: &str) -> Word
     ensures { result ≡ word_tests name.now }
 {
@@ -26,50 +26,32 @@ fn word_of(name: &str) -> Word
     }
 }
 
-// The same of bytes: what is no text is no word.
+// The statement that a name at a line's start begins: what is no text is no word.
+#[tactic(auto, using(crate::proofs::Same::plain_word), unfolding(crate::specs::Words::word_of))]
 pub fn word_at(name: &[u8]) -> Word
     ensures { result ≡ word_of name.now }
 {
-    match std::str::from_utf8(name) {
-        Ok(s) => word_of(s),
-        Err(_) => Word::Plain,
-    }
+    std::str::from_utf8(name).map_or(Word::Plain, word_of)
 }
 
 fn rule_takes(name: &str) -> bool
     ensures { result ≡ rule_tests name.now }
 {
-    match name {
-        "command" | "description" | "pool" | "restat" => true,
-        _ => false,
-    }
-}
-
-fn pool_takes(name: &str) -> bool
-    ensures { result ≡ pool_tests name.now }
-{
-    match name {
-        "depth" => true,
-        _ => false,
-    }
+    matches!(name, "command" | "description" | "pool" | "restat")
 }
 
 // Whether a rule's block takes a variable of this name.
+#[tactic(auto, using(crate::proofs::Same::not_in_rule), unfolding(crate::specs::Words::rule_takes))]
 pub fn in_rule(name: &[u8]) -> bool
     ensures { result ≡ rule_takes name.now }
 {
-    match std::str::from_utf8(name) {
-        Ok(s) => rule_takes(s),
-        Err(_) => false,
-    }
+    std::str::from_utf8(name).is_ok_and(rule_takes)
 }
 
 // Whether a pool's block takes a variable of this name.
+#[tactic(auto, using(crate::proofs::Same::not_in_pool), unfolding(crate::specs::Words::pool_takes))]
 pub fn in_pool(name: &[u8]) -> bool
     ensures { result ≡ pool_takes name.now }
 {
-    match std::str::from_utf8(name) {
-        Ok(s) => pool_takes(s),
-        Err(_) => false,
-    }
+    std::str::from_utf8(name).is_ok_and(|s| s == "depth")
 }

@@ -63,12 +63,6 @@ abbrev pub spaces : ℕ → List ℕ → Out (Unit {0})
 spaces i [] = ok tt i []
 spaces i (b ∷ s) = cond (b == 32) (spaces (i + 1) s) (ok tt i (b ∷ s))
 
--- how many bytes the next piece of a gap has
-abbrev pub gap_width : List ℕ → ℕ
-gap_width [] = 0
-gap_width (b ∷ []) = cond (b == 32) 1 0
-gap_width (b ∷ c ∷ s) = cond (b == 32) 1 (cond (b == 36 && c == 10) 2 0)
-
 -- any spaces, and line ends after a `$`
 abbrev pub gap : ℕ → List ℕ → Out (Unit {0})
 gap i [] = ok tt i []

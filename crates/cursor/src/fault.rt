@@ -8,6 +8,7 @@ use crate::place::{Fault, Place};
 pub const LIMIT: usize = 65_535;
 
 impl Fault {
+    // The number. Most faults carry a place, so that no cast of a discriminant gives it.
     pub fn number(self) -> u8
         ensures { result ≡ (numbered self).0 }
     {
@@ -20,6 +21,7 @@ impl Fault {
         }
     }
 
+    // The place: of a text that is too long, the first byte over the limit.
     pub fn place(self) -> Place
         ensures { result.byte ≡ (numbered self).1 }
     {

@@ -1,6 +1,6 @@
 // How a line begins: blank, a comment, in the first column, or indented.
-ghost use Rattle.std.specs.Prelude.{◌≡◌};
-ghost use Rattle.cursor.specs.Scan.{told, comment, indented, flush, lead};
+ghost use Rattle.std.specs.Prelude.{◌≡◌, ◌==◌, position};
+ghost use Rattle.cursor.specs.Scan.{told, comment, lead};
 
 use crate::place::{Cursor, Fault, Place};
 
@@ -18,46 +18,32 @@ pub enum Lead {
     Indented,
 }
 
-impl<'a> Cursor<'a> {
+// How many bytes stand before the line's end, if it has one.
+fn line_len(s: &[u8]) -> Option<usize>
+    ensures { result ≡ position (λ b. b == 10) s.now }
+{
+    s.iter().position(|b| *b == b'\n')
+}
+
+impl Cursor<'_> {
     // Passes the line, with its end.
     fn skip_line(&mut self) -> Result<(), Fault>
         ensures { told (λ u. u) result self.new ≡ comment self.old.at self.old.rest.now }
     {
-        loop {
-            match self.rest {
-                [] => return Err(Fault::Syntax(Place { byte: self.at })),
-                [b'\n', ..] => {
-                    self.advance(1);
-                    return Ok(());
-                }
-                _ => self.advance(1),
-            }
-        }
+        let end = self.at + self.rest.len();
+        let n = line_len(self.rest).ok_or(Fault::Syntax(Place { byte: end }))?;
+        self.advance(n + 1);
+        Ok(())
     }
 
-    // Reads on after a line's first spaces.
-    fn indented(&mut self) -> Result<Lead, Fault>
-        ensures { told (λ x. x) result self.new ≡ indented self.old.at self.old.rest.now }
+    // Reads how a line begins, and passes it if it is nothing.
+    pub fn lead(&mut self) -> Result<Lead, Fault>
+        ensures { told (λ x. x) result self.new ≡ lead self.old.at self.old.rest.now }
     {
+        let indented = matches!(self.rest, [b' ', ..]);
+        self.skip_spaces();
         match self.rest {
-            [] => Err(Fault::Syntax(Place { byte: self.at })),
-            [b'\n', ..] => {
-                self.advance(1);
-                Ok(Lead::Blank)
-            }
-            [b'#', ..] => {
-                self.skip_line()?;
-                Ok(Lead::Remark)
-            }
-            _ => Ok(Lead::Indented),
-        }
-    }
-
-    // Reads on in the first column.
-    fn flush(&mut self) -> Result<Lead, Fault>
-        ensures { told (λ x. x) result self.new ≡ flush self.old.at self.old.rest.now }
-    {
-        match self.rest {
+            [] if indented => Err(Fault::Syntax(Place { byte: self.at })),
             [] => Ok(Lead::Ends),
             [b'\n', ..] => {
                 self.advance(1);
@@ -67,20 +53,8 @@ impl<'a> Cursor<'a> {
                 self.skip_line()?;
                 Ok(Lead::Remark)
             }
+            _ if indented => Ok(Lead::Indented),
             _ => Ok(Lead::Flush),
-        }
-    }
-
-    // Reads how a line begins, and passes it if it is nothing.
-    pub fn lead(&mut self) -> Result<Lead, Fault>
-        ensures { told (λ x. x) result self.new ≡ lead self.old.at self.old.rest.now }
-    {
-        match self.rest {
-            [b' ', ..] => {
-                self.skip_spaces();
-                self.indented()
-            }
-            _ => self.flush(),
         }
     }
 }

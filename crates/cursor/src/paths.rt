@@ -1,8 +1,8 @@
 // Paths, the lists that they stand in, and the marks between the lists.
-ghost use Rattle.std.specs.Prelude.{◌≡◌, ◌≤◌, false, length};
-ghost use Rattle.cursor.specs.Scan.{told, ok, walk, wraps, path, any_path, next_path, first_path, bar, pair};
+ghost use Rattle.std.specs.Prelude.{◌≡◌, ◌≤◌, false, length, take_while};
+ghost use Rattle.cursor.specs.Scan.{told, ok, walk, wraps, path, next_path, first_path, bar, pair};
 ghost use Rattle.cursor.specs.Told.{maybe};
-ghost use Rattle.cursor.specs.Runs.{inner, inner_len};
+ghost use Rattle.cursor.specs.Runs.{inner};
 
 use crate::place::{Cursor, Fault, Place};
 use crate::scan::is_escaped;
@@ -11,31 +11,21 @@ use crate::scan::is_escaped;
 fn is_inner(b: u8) -> bool
     ensures { result ≡ inner b }
 {
-    match b {
-        b' ' | b':' | b'|' | b'\n' | b'$' => false,
-        _ => true,
-    }
+    !matches!(b, b' ' | b':' | b'|' | b'\n' | b'$')
 }
 
 // How many such bytes stand at the front.
 fn inner_len(s: &[u8]) -> usize
-    ensures { result ≡ inner_len s.now }
+    ensures { result ≡ length (take_while inner s.now) }
 {
-    let mut n = 0;
-    while n < s.len() && is_inner(s[n]) {
-        n += 1;
-    }
-    n
+    s.iter().take_while(|b| is_inner(**b)).count()
 }
 
 // Whether what stands after a `$` makes a continuation of it.
 fn is_wrap(tail: &[u8]) -> bool
     ensures { result ≡ wraps tail.now }
 {
-    match tail {
-        [b'\n', ..] => true,
-        _ => false,
-    }
+    matches!(tail, [b'\n', ..])
 }
 
 impl<'a> Cursor<'a> {
@@ -59,11 +49,11 @@ impl<'a> Cursor<'a> {
                 [] => return Err(Fault::Syntax(Place { byte: self.at })),
                 [b' ', ..] => {
                     if !wrapped {
-                        return Ok(&start[0..start.len() - self.rest.len()]);
+                        return Ok(&start[..start.len() - self.rest.len()]);
                     }
                     self.advance(1);
                 }
-                [b':' | b'|' | b'\n', ..] => return Ok(&start[0..start.len() - self.rest.len()]),
+                [b':' | b'|' | b'\n', ..] => return Ok(&start[..start.len() - self.rest.len()]),
                 [b'$', tail @ ..] => {
                     if !is_escaped(tail) {
                         return Err(Fault::Dollar(Place { byte: self.at }));
@@ -80,36 +70,23 @@ impl<'a> Cursor<'a> {
         }
     }
 
-    // Reads a path if one begins here.
-    fn any_path(&mut self) -> Result<Option<&'a [u8]>, Fault>
-        ensures { told (maybe (λ x. x.now)) result self.new ≡ any_path self.old.at self.old.rest.now }
-    {
-        match self.rest {
-            [] => Ok(None),
-            [b' ' | b':' | b'|' | b'\n', ..] => Ok(None),
-            _ => {
-                let p = self.path()?;
-                Ok(Some(p))
-            }
-        }
-    }
-
     // Reads the next path of a list, if there is one.
     pub fn next_path(&mut self) -> Result<Option<&'a [u8]>, Fault>
         ensures { told (maybe (λ x. x.now)) result self.new ≡ next_path self.old.at self.old.rest.now }
     {
         self.skip_gap();
-        self.any_path()
+        match self.rest {
+            [] | [b' ' | b':' | b'|' | b'\n', ..] => Ok(None),
+            _ => self.path().map(Some),
+        }
     }
 
     // Reads the first path of a list that may not be empty.
     pub fn first_path(&mut self) -> Result<&'a [u8], Fault>
         ensures { told (λ x. x.now) result self.new ≡ first_path self.old.at self.old.rest.now }
     {
-        match self.next_path()? {
-            Some(p) => Ok(p),
-            None => Err(Fault::Syntax(Place { byte: self.at })),
-        }
+        self.next_path()?
+            .ok_or(Fault::Syntax(Place { byte: self.at }))
     }
 
     // Passes the mark `|` if it stands here; marks are read longest first.
@@ -130,15 +107,10 @@ impl<'a> Cursor<'a> {
     pub fn pair(&mut self, k: u8) -> bool
         ensures { ok result self.new.at self.new.rest.now ≡ pair k self.old.at self.old.rest.now }
     {
-        match self.rest {
-            [b'|', c, ..] => {
-                if *c != k {
-                    return false;
-                }
-                self.advance(2);
-                true
-            }
-            _ => false,
+        let stands = self.rest.starts_with(&[b'|', k]);
+        if stands {
+            self.advance(2);
         }
+        stands
     }
 }

@@ -1,6 +1,7 @@
 // Gaps, names, single bytes and values.
-ghost use Rattle.std.specs.Prelude.{◌≡◌, ◌+◌, ◌≤◌, length, drop, ◌==◌, slice_index};
-ghost use Rattle.cursor.specs.Scan.{told, ok, opens, lack, spaces, gap_width, gap, name_len, name, byte, braced, escaped, value};
+ghost use Rattle.std.specs.Prelude.{◌≡◌, ◌+◌, ◌≤◌, length, drop, take_while};
+ghost use Rattle.byteclass.specs.Class.{name_byte};
+ghost use Rattle.cursor.specs.Scan.{told, ok, opens, lack, spaces, gap, name, byte, braced, escaped, value};
 
 use crate::place::{Cursor, Fault, Opens, Place};
 use byteclass::{is_name, is_simple};
@@ -18,41 +19,20 @@ impl Opens {
     }
 }
 
-// How many bytes the next piece of a gap has: a space, or a `$` with a line end.
-fn gap_width(s: &[u8]) -> usize
-    ensures { result ≡ gap_width s.now }
-{
-    match s {
-        [b' ', ..] => 1,
-        [b'$', b'\n', ..] => 2,
-        _ => 0,
-    }
-}
-
 // How many name bytes stand at the front.
 fn name_len(s: &[u8]) -> usize
-    ensures { result ≡ name_len s.now }
+    ensures { result ≡ length (take_while name_byte s.now) }
 {
-    let mut n = 0;
-    while n < s.len() && is_name(s[n]) {
-        n += 1;
-    }
-    n
-}
-
-// Whether a `}` stands at n.
-fn closes(s: &[u8], n: usize) -> bool
-    ensures { result ≡ (slice_index s.now n == 125) }
-{
-    n < s.len() && s[n] == b'}'
+    s.iter().take_while(|b| is_name(**b)).count()
 }
 
 // Whether a name stands here with a `}` after it.
+#[tactic(auto, using(crate::proofs::Steps::name_count))]
 fn is_braced(s: &[u8]) -> bool
     ensures { result ≡ braced s.now }
 {
     let n = name_len(s);
-    n > 0 && closes(s, n)
+    n > 0 && s.get(n) == Some(&b'}')
 }
 
 // Whether what stands after a `$` makes an escape of it.
@@ -82,18 +62,12 @@ impl<'a> Cursor<'a> {
     pub fn lack(&self, other: Opens) -> Fault
         ensures { result ≡ lack other self.now.at self.now.rest.now }
     {
-        match self.rest {
-            [] => Fault::Syntax(Place { byte: self.at }),
-            [b, ..] => {
-                if other.by(*b) {
-                    return Fault::Syntax(Place { byte: self.at + 1 });
-                }
-                Fault::Syntax(Place { byte: self.at })
-            }
-        }
+        let opened = self.rest.first().is_some_and(|b| other.by(*b));
+        let byte = if opened { self.at + 1 } else { self.at };
+        Fault::Syntax(Place { byte })
     }
 
-    // Passes spaces.
+    // Passes spaces. A chain that counts them would need a function of its own for its contract.
     pub(crate) fn skip_spaces(&mut self)
         ensures { ok tt self.new.at self.new.rest.now ≡ spaces self.old.at self.old.rest.now }
     {
@@ -103,15 +77,16 @@ impl<'a> Cursor<'a> {
     }
 
     // Passes spaces, and line ends after a `$`.
+    #[tactic(auto, using(crate::proofs::Steps::gap_space, crate::proofs::Steps::gap_wrap))]
     pub fn skip_gap(&mut self)
         ensures { ok tt self.new.at self.new.rest.now ≡ gap self.old.at self.old.rest.now }
     {
         loop {
-            let n = gap_width(self.rest);
-            if n == 0 {
-                return;
+            match self.rest {
+                [b' ', ..] => self.advance(1),
+                [b'$', b'\n', ..] => self.advance(2),
+                _ => return,
             }
-            self.advance(n);
         }
     }
 
@@ -125,7 +100,7 @@ impl<'a> Cursor<'a> {
             return Err(self.lack(other));
         }
         self.advance(n);
-        Ok(&start[0..n])
+        Ok(&start[..n])
     }
 
     // Passes the byte k, which has to stand here.
@@ -149,7 +124,7 @@ impl<'a> Cursor<'a> {
         loop {
             match self.rest {
                 [] => return Err(Fault::Syntax(Place { byte: self.at })),
-                [b'\n', ..] => return Ok(&start[0..start.len() - self.rest.len()]),
+                [b'\n', ..] => return Ok(&start[..start.len() - self.rest.len()]),
                 [b'$', tail @ ..] => {
                     if !is_escaped(tail) {
                         return Err(Fault::Dollar(Place { byte: self.at }));

@@ -1,6 +1,6 @@
 -- One put after another.
-use Rattle.std.proofs.Common.{◌≡◌, ℕ, ◌+◌, ◌<◌, ◌≤◌, List, [], ◌∷◌, ◌++◌, map, length, get_or, drop, Ok, Err, vec_items, Result, Vec, sym, ap, ◌∙◌, append_assoc, append-nil, arith, Bor}
-use Rattle.std.proofs.lemmas.List.{drop_more, drop_all, map_push}
+use Rattle.std.proofs.Common.{◌≡◌, ℕ, ◌+◌, ◌<◌, ◌≤◌, List, [], ◌∷◌, ◌++◌, map, length, get_or, drop, Ok, Err, vec_items, Result, Vec, sym, refl, subst, ap, ◌∙◌, append_assoc, append-nil, arith, Bor}
+use Rattle.std.proofs.lemmas.List.{drop_more, drop_all}
 use Rattle.std.specs.declared.alloc.AllocError.{AllocError}
 use Rattle.std.specs.declared.alloc.Global.{Global}
 use Rattle.parts.specs.declared.kinds.Binding.{Binding}
@@ -53,14 +53,9 @@ pub marked_some : (r : Result (Unit {0}) AllocError) (x z : Vec ℕ Global) (m :
 marked_some r x z m [] e h = absurd (omega arith)
 marked_some r x z m (p ∷ ps) e h = h
 
-pub named_more : (bs : List Binding) (i : ℕ) (d : Binding) (ns more : List (Bor (List ℕ))) (z : List (List ℕ)) → i < length bs → more ≡ ns ++ (get_or bs i d).name ∷ [] → map (λ x. x.now) ns ++ names (map entry_of (drop i bs)) ≡ z → map (λ x. x.now) more ++ names (map entry_of (drop (i + 1) bs)) ≡ z
-named_more bs i d ns more z l h k =
-    let b = get_or bs i d in
-    ap (λ x. map (λ x. x.now) x ++ names (map entry_of (drop (i + 1) bs))) h
-    ∙ (ap (λ x. x ++ names (map entry_of (drop (i + 1) bs))) (map_push (λ x. x.now) ns b.name)
-    ∙ (append_assoc (map (λ x. x.now) ns) (b.name.now ∷ []) (names (map entry_of (drop (i + 1) bs)))
-    ∙ (ap (λ x. map (λ x. x.now) ns ++ names (map entry_of x)) (sym (drop_more bs i d l)) ∙ k)))
+names_of : (bs : List Binding) → map (λ x. x.now) (map (λ b. b.name) bs) ≡ names (map entry_of bs)
+names_of [] = refl
+names_of (b ∷ bs) = ap (λ ns. b.name.now ∷ ns) (names_of bs)
 
-pub named_all : (bs : List Binding) (i : ℕ) (ns : List (Bor (List ℕ))) → length bs ≤ i → map (λ x. x.now) ns ++ names (map entry_of (drop i bs)) ≡ names (map entry_of bs) → map (λ x. x.now) ns ≡ names (map entry_of bs)
-named_all bs i ns l e =
-    sym (append-nil (map (λ x. x.now) ns)) ∙ (ap (λ x. map (λ x. x.now) ns ++ names (map entry_of x)) (sym (drop_all i bs l)) ∙ e)
+pub block_puts : (r : Result (Unit {0}) AllocError) (x z : Vec ℕ Global) (m : List ℕ) (bs : List Binding) (ns : List (Bor (List ℕ))) → ns ≡ map (λ b. b.name) bs → Puts r x z (marked m (map (λ x. x.now) ns)) → Puts r x z (marked m (names (map entry_of bs)))
+block_puts r x z m bs ns e h = subst (λ y. Puts r x z (marked m y)) (ap (map (λ x. x.now)) e ∙ names_of bs) h

@@ -1,6 +1,5 @@
 -- What people are shown of a manifest.
-use Rattle.std.specs.Prelude.{◌≡◌, ℕ, cond, List, [], ◌∷◌, ◌++◌, map, Ok, Err, vec_items, codes, decimal, Result, Vec, ◌==◌}
-use Rattle.std.specs.Borrow.{Bor}
+use Rattle.std.specs.Prelude.{◌≡◌, ℕ, cond, List, [], ◌∷◌, ◌++◌, Ok, Err, vec_items, codes, decimal, Result, Vec, ◌==◌}
 use Rattle.std.specs.declared.alloc.AllocError.{AllocError}
 use Rattle.std.specs.declared.alloc.Global.{Global}
 use Rattle.cursor.specs.Scan.{Out, ok, bad, numbered}
@@ -84,8 +83,3 @@ Puts (Err e) a b w = Unit {0}
 abbrev pub Shows : Result (Vec ℕ Global) AllocError → List ℕ → Type 0
 Shows (Ok v) w = vec_items v ≡ w
 Shows (Err e) w = Unit {0}
-
--- a call that collects the parts ps, if there is memory
-abbrev pub Named : Result (Vec (Bor (List ℕ)) Global) AllocError → List (List ℕ) → Type 0
-Named (Ok v) ps = map (λ x. x.now) (vec_items v) ≡ ps
-Named (Err e) ps = Unit {0}

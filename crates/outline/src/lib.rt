@@ -1,17 +1,17 @@
 // A manifest's outline, for people: a line for each statement, with its place, its kind and its names, or the refusal.
 #![tactic(auto)]
 
-ghost use Rattle.std.specs.Prelude.{◌≡◌, List, [], ◌∷◌, map, codes, decimal};
-ghost use Rattle.parts.specs.Parts.{entry_of, paths_of};
-ghost use Rattle.text.specs.Text.{lines_of, head_of, work_of, said_of, stated_of, manifest_of};
-ghost use Rattle.outline.specs.Outline.{shown_byte, shown, words, marked, names, head_shown, work_shown, said_shown, line_of, fault_line, lines_shown, outline_of, Puts, Shows, Named};
+ghost use Rattle.std.specs.Prelude.{◌≡◌, map, codes, decimal, IfOk};
+ghost use Rattle.parts.specs.Parts.{entry_of};
+ghost use Rattle.text.specs.Text.{head_of, work_of, said_of, stated_of, manifest_of};
+ghost use Rattle.outline.specs.Outline.{shown_byte, shown, words, marked, names, head_shown, work_shown, said_shown, line_of, fault_line, lines_shown, outline_of, Puts, Shows};
 
 use cursor::Fault;
 use parts::{Binding, Refusal};
 use std::alloc::{AllocError, Global};
 use text::{Body, Declared, Edge, Statement};
 
-// Puts bytes as they are.
+// Puts bytes as they are. Its contract is one equation, where that of `extend_from_slice` speaks of clones.
 fn put(out: &mut Vec<u8>, part: &[u8]) -> Result<(), AllocError>
     ensures { Puts result out.old out.new part.now }
 {
@@ -35,20 +35,20 @@ fn put_part(out: &mut Vec<u8>, part: &[u8]) -> Result<(), AllocError>
     Ok(())
 }
 
-fn put_number(heap: Global, out: &mut Vec<u8>, n: usize) -> Result<(), AllocError>
+fn put_number(out: &mut Vec<u8>, n: usize) -> Result<(), AllocError>
     ensures { Puts result out.old out.new (decimal n) }
 {
-    let digits = format!(in heap; "{n}")?;
-    put(out, digits.as_str().as_bytes())
+    let digits = format!(in *out.allocator(); "{n}")?;
+    put(out, digits.as_bytes())
 }
 
 // Puts parts, each after a space.
 fn put_words(out: &mut Vec<u8>, parts: &[&[u8]]) -> Result<(), AllocError>
     ensures { Puts result out.old out.new (words (map (λ x. x.now) parts.now)) }
 {
-    for p in parts {
+    for part in parts {
         put(out, b" ")?;
-        put_part(out, *p)?;
+        put_part(out, part)?;
     }
     Ok(())
 }
@@ -64,63 +64,45 @@ fn put_marked(out: &mut Vec<u8>, mark: &[u8], parts: &[&[u8]]) -> Result<(), All
     put_words(out, parts)
 }
 
-// Puts the paths of a list.
-fn put_list(out: &mut Vec<u8>, paths: &Vec<&[u8]>) -> Result<(), AllocError>
-    ensures { Puts result out.old out.new (words (paths_of paths.now)) }
-{
-    put_words(out, paths.as_slice())
-}
-
-// Puts the paths of a list after its mark, if there are any.
-fn put_section(out: &mut Vec<u8>, mark: &[u8], paths: &Vec<&[u8]>) -> Result<(), AllocError>
-    ensures { Puts result out.old out.new (marked mark.now (paths_of paths.now)) }
-{
-    put_marked(out, mark, paths.as_slice())
-}
-
 // The names that a block sets.
 fn names<'a>(heap: Global, lines: &[Binding<'a>]) -> Result<Vec<&'a [u8]>, AllocError>
-    ensures { Named result (names (map entry_of lines.now)) }
+    ensures { IfOk result (λ v. v.items ≡ map (λ b. b.name) lines.now) }
 {
-    let mut all = Vec::new(heap);
-    for b in lines {
-        all.push(b.name)?;
-    }
-    Ok(all)
+    lines.iter().map(|b| b.name).collect(heap)
 }
 
 // Puts the names that a block sets.
-fn put_block(heap: Global, out: &mut Vec<u8>, lines: &Vec<Binding>) -> Result<(), AllocError>
-    ensures { Puts result out.old out.new (marked (codes " with") (names (lines_of lines.now))) }
+fn put_block(out: &mut Vec<u8>, lines: &[Binding]) -> Result<(), AllocError>
+    ensures { Puts result out.old out.new (marked (codes " with") (names (map entry_of lines.now))) }
 {
-    let all = names(heap, lines.as_slice())?;
-    put_section(out, b" with", &all)
+    let names = names(*out.allocator(), lines)?;
+    put_marked(out, b" with", &names)
 }
 
-fn put_head(heap: Global, out: &mut Vec<u8>, kind: &[u8], d: &Declared) -> Result<(), AllocError>
+fn put_head(out: &mut Vec<u8>, kind: &[u8], d: &Declared) -> Result<(), AllocError>
     ensures { Puts result out.old out.new (head_shown kind.now (head_of d.now)) }
 {
     put(out, kind)?;
     put_part(out, d.name)?;
-    put_block(heap, out, &d.lines)
+    put_block(out, &d.lines)
 }
 
-fn put_edge(heap: Global, out: &mut Vec<u8>, e: &Edge) -> Result<(), AllocError>
+fn put_edge(out: &mut Vec<u8>, e: &Edge) -> Result<(), AllocError>
     ensures { Puts result out.old out.new (work_shown (work_of e.now)) }
 {
     put(out, b"build")?;
-    put_list(out, &e.outputs.explicit)?;
-    put_section(out, b" |", &e.outputs.implicit)?;
+    put_words(out, &e.outputs.explicit)?;
+    put_marked(out, b" |", &e.outputs.implicit)?;
     put(out, b": ")?;
     put_part(out, e.rule)?;
-    put_list(out, &e.inputs.explicit)?;
-    put_section(out, b" |", &e.inputs.implicit)?;
-    put_section(out, b" ||", &e.inputs.order_only)?;
-    put_section(out, b" |@", &e.inputs.validations)?;
-    put_block(heap, out, &e.lines)
+    put_words(out, &e.inputs.explicit)?;
+    put_marked(out, b" |", &e.inputs.implicit)?;
+    put_marked(out, b" ||", &e.inputs.order_only)?;
+    put_marked(out, b" |@", &e.inputs.validations)?;
+    put_block(out, &e.lines)
 }
 
-fn put_body(heap: Global, out: &mut Vec<u8>, body: &Body) -> Result<(), AllocError>
+fn put_body(out: &mut Vec<u8>, body: &Body) -> Result<(), AllocError>
     ensures { Puts result out.old out.new (said_shown (said_of body.now)) }
 {
     match body {
@@ -128,46 +110,46 @@ fn put_body(heap: Global, out: &mut Vec<u8>, body: &Body) -> Result<(), AllocErr
             put(out, b"variable ")?;
             put_part(out, b.name)
         }
-        Body::Rule(d) => put_head(heap, out, b"rule ", d),
-        Body::Pool(d) => put_head(heap, out, b"pool ", d),
-        Body::Build(e) => put_edge(heap, out, e),
+        Body::Rule(d) => put_head(out, b"rule ", d),
+        Body::Pool(d) => put_head(out, b"pool ", d),
+        Body::Build(e) => put_edge(out, e),
     }
 }
 
-fn put_line(heap: Global, out: &mut Vec<u8>, x: &Statement) -> Result<(), AllocError>
+fn put_line(out: &mut Vec<u8>, x: &Statement) -> Result<(), AllocError>
     ensures { Puts result out.old out.new (line_of (stated_of x.now)) }
 {
-    put_number(heap, out, x.place.byte)?;
+    put_number(out, x.place.byte)?;
     put(out, b" ")?;
-    put_body(heap, out, &x.body)?;
+    put_body(out, &x.body)?;
     put(out, b"\n")
 }
 
-fn put_fault(heap: Global, out: &mut Vec<u8>, f: Fault) -> Result<(), AllocError>
+fn put_fault(out: &mut Vec<u8>, f: Fault) -> Result<(), AllocError>
     ensures { Puts result out.old out.new (fault_line f) }
 {
     put(out, b"refused ")?;
-    put_number(heap, out, f.number() as usize)?;
+    put_number(out, f.number() as usize)?;
     put(out, b" at ")?;
-    put_number(heap, out, f.place().byte)?;
+    put_number(out, f.place().byte)?;
     put(out, b"\n")
 }
 
-fn put_lines(heap: Global, out: &mut Vec<u8>, all: &[Statement]) -> Result<(), AllocError>
+fn put_lines(out: &mut Vec<u8>, all: &[Statement]) -> Result<(), AllocError>
     ensures { Puts result out.old out.new (lines_shown (map stated_of all.now)) }
 {
     for x in all {
-        put_line(heap, out, x)?;
+        put_line(out, x)?;
     }
     Ok(())
 }
 
-// The line of a statement.
+// The line of a statement. A function that serves this one and `fault_line` would take a closure that changes the vector, and be longer than both.
 pub fn line(heap: Global, x: &Statement) -> Result<Vec<u8>, AllocError>
     ensures { Shows result (line_of (stated_of x.now)) }
 {
     let mut out = Vec::new(heap);
-    put_line(heap, &mut out, x)?;
+    put_line(&mut out, x)?;
     Ok(out)
 }
 
@@ -176,7 +158,7 @@ pub fn fault_line(heap: Global, f: Fault) -> Result<Vec<u8>, AllocError>
     ensures { Shows result (fault_line f) }
 {
     let mut out = Vec::new(heap);
-    put_fault(heap, &mut out, f)?;
+    put_fault(&mut out, f)?;
     Ok(out)
 }
 
@@ -187,7 +169,7 @@ pub fn outline(heap: Global, manifest: &[u8]) -> Result<Vec<u8>, AllocError>
     match text::manifest(heap, manifest) {
         Ok(all) => {
             let mut out = Vec::new(heap);
-            put_lines(heap, &mut out, all.as_slice())?;
+            put_lines(&mut out, &all)?;
             Ok(out)
         }
         Err(Refusal::Faulty(f)) => fault_line(heap, f),

@@ -1,7 +1,7 @@
 // Variables that are set, in a block or in the file, and the lines around them.
 ghost use Rattle.std.specs.Prelude.{◌≡◌, [], map};
 ghost use Rattle.cursor.specs.Scan.{told};
-ghost use Rattle.parts.specs.Parts.{Tells, entry_of, set_to, takes, set_in, setting, block_turn, turn_in, block, skip_turn, skipped, passed};
+ghost use Rattle.parts.specs.Parts.{Tells, entry_of, set_to, takes, setting, block_turn, turn_in, block, skip_turn, skipped, passed};
 
 use crate::kinds::{Binding, Block};
 use crate::refusal::Refusal;
@@ -9,7 +9,7 @@ use byteclass::{in_pool, in_rule};
 use cursor::{Cursor, Fault, Lead, Opens, Place};
 use std::alloc::Global;
 
-// What a line means for the block that is open.
+// What a line means for the block that is open. No Option says all three.
 #[derive(Clone, Copy)]
 pub enum Line<'a> {
     // the block ends before the line, or with it

@@ -1,6 +1,6 @@
 // Lists of paths, as they stand in a build statement.
-ghost use Rattle.std.specs.Prelude.{◌≡◌, [], map};
-ghost use Rattle.parts.specs.Parts.{Tells, paths, paths_of, some_paths, list_if, open_after, last_list, outputs, outs_of, inputs, ins_of};
+ghost use Rattle.std.specs.Prelude.{◌≡◌, []};
+ghost use Rattle.parts.specs.Parts.{Tells, paths, paths_of, some_paths, open_after, outputs, outs_of, inputs, ins_of};
 
 use crate::kinds::{Inputs, Outputs};
 use crate::refusal::Refusal;
@@ -37,35 +37,11 @@ fn some_paths<'a>(heap: Global, c: &mut Cursor<'a>) -> Result<Vec<&'a [u8]>, Ref
     Ok(all)
 }
 
-// Reads a list if its mark stood before it.
-fn list_if<'a>(heap: Global, marked: bool, c: &mut Cursor<'a>) -> Result<Vec<&'a [u8]>, Refusal>
-    ensures { Tells paths_of result c.new (list_if marked c.old.at c.old.rest.now) }
-{
-    if marked {
-        return any_paths(heap, c);
-    }
-    Ok(Vec::new(heap))
-}
-
 // Whether a longer mark could still follow the lists that were read.
 fn open_after(marked: bool) -> Opens
     ensures { result ≡ open_after marked }
 {
     if marked { Opens::Nothing } else { Opens::Mark }
-}
-
-// Reads the last list, if its mark stood before it, and the byte k that ends the lists.
-fn last_list<'a>(
-    heap: Global,
-    k: u8,
-    marked: bool,
-    c: &mut Cursor<'a>,
-) -> Result<Vec<&'a [u8]>, Refusal>
-    ensures { Tells paths_of result c.new (last_list k marked c.old.at c.old.rest.now) }
-{
-    let all = list_if(heap, marked, c)?;
-    c.expect(k, open_after(marked))?;
-    Ok(all)
 }
 
 // Reads the outputs of a build statement, up to the rule's name.
@@ -74,7 +50,12 @@ pub fn outputs<'a>(heap: Global, c: &mut Cursor<'a>) -> Result<Outputs<'a>, Refu
 {
     let explicit = some_paths(heap, c)?;
     let marked = c.bar();
-    let implicit = last_list(heap, b':', marked, c)?;
+    let implicit = if marked {
+        any_paths(heap, c)?
+    } else {
+        Vec::new(heap)
+    };
+    c.expect(b':', open_after(marked))?;
     Ok(Outputs { explicit, implicit })
 }
 
@@ -83,12 +64,23 @@ pub fn inputs<'a>(heap: Global, c: &mut Cursor<'a>) -> Result<Inputs<'a>, Refusa
     ensures { Tells ins_of result c.new (inputs c.old.at c.old.rest.now) }
 {
     let explicit = any_paths(heap, c)?;
-    let marked = c.bar();
-    let implicit = list_if(heap, marked, c)?;
-    let ordered = c.pair(b'|');
-    let order_only = list_if(heap, ordered, c)?;
+    let implicit = if c.bar() {
+        any_paths(heap, c)?
+    } else {
+        Vec::new(heap)
+    };
+    let order_only = if c.pair(b'|') {
+        any_paths(heap, c)?
+    } else {
+        Vec::new(heap)
+    };
     let checked = c.pair(b'@');
-    let validations = last_list(heap, b'\n', checked, c)?;
+    let validations = if checked {
+        any_paths(heap, c)?
+    } else {
+        Vec::new(heap)
+    };
+    c.expect(b'\n', open_after(checked))?;
     Ok(Inputs {
         explicit,
         implicit,

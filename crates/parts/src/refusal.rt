@@ -1,4 +1,5 @@
 // Why a call that allocates answers nothing.
+// Errors of other crates look alike, but one type for all needs these impls for each fault: a `From<E>` for every E meets that of the allocator.
 ghost use Rattle.std.specs.Prelude.{◌≡◌};
 ghost use Rattle.parts.specs.declared.refusal.Refusal.TheVariants.{Faulty, Memory};
 

@@ -1,9 +1,10 @@
 // The public calls: a text is opened, and read statement by statement or all at once.
-ghost use Rattle.std.specs.Prelude.{◌≡◌, ◌≤◌, map, length, take};
+ghost use Rattle.std.specs.Prelude.{◌≡◌, ◌≤◌, map, length, take, position};
+ghost use Rattle.byteclass.specs.Class.{banned_byte};
 ghost use Rattle.cursor.specs.Told.{maybe};
 ghost use Rattle.parts.specs.Parts.{Tells};
 ghost use Rattle.text.specs.Grammar.{Admits, Placed};
-ghost use Rattle.text.specs.Text.{first_banned, checked, refused_by, next, stated_of, statements, manifest_of, Answers, Kept};
+ghost use Rattle.text.specs.Text.{checked, refused_by, next, stated_of, statements, manifest_of, Answers, Kept};
 
 use crate::kinds::Statement;
 use crate::statement::read_next;
@@ -13,19 +14,15 @@ use cursor::{Cursor, Fault, Place};
 use parts::Refusal;
 use std::alloc::Global;
 
-// The first byte that no manifest may hold.
-fn first_banned(text: &[u8]) -> Option<Fault>
-    ensures { result ≡ first_banned 0 text.now }
+// How many bytes stand before the first that no manifest may hold.
+fn first_banned(text: &[u8]) -> Option<usize>
+    ensures { result ≡ position banned_byte text.now }
 {
-    for (i, b) in text.iter().enumerate() {
-        if is_banned(*b) {
-            return Some(Fault::Banned(Place { byte: i }));
-        }
-    }
-    None
+    text.iter().position(|b| is_banned(*b))
 }
 
 // Looks for the faults that come before any other, over all bytes.
+#[tactic(auto, using(crate::proofs::Banned::banned_found, crate::proofs::Banned::banned_none))]
 pub fn check(text: &[u8]) -> Result<(), Fault>
     ensures { refused_by result ≡ checked text.now }
 {
@@ -33,13 +30,13 @@ pub fn check(text: &[u8]) -> Result<(), Fault>
         return Err(Fault::TooLong);
     }
     match first_banned(text) {
-        Some(f) => Err(f),
+        Some(byte) => Err(Fault::Banned(Place { byte })),
         None => Ok(()),
     }
 }
 
-// As much of a text as a manifest may have.
-fn at_most<'a>(text: &'a [u8]) -> &'a [u8]
+// As much of a text as a manifest may have. With `..LIMIT`, and with `get`, the proof counts up to the limit and does not end.
+fn at_most(text: &[u8]) -> &[u8]
     ensures is { result.now ≡ take 65535 text.now }
     ensures short { length result.now ≤ 65535 }
 {
@@ -50,7 +47,7 @@ fn at_most<'a>(text: &'a [u8]) -> &'a [u8]
 }
 
 // A reader at the first byte of a text, of which it reads no more than a manifest may have.
-pub fn start<'a>(text: &'a [u8]) -> Cursor<'a>
+pub fn start(text: &[u8]) -> Cursor<'_>
     ensures at { result.at ≡ 0 }
     ensures rest { result.rest.now ≡ take 65535 text.now }
 {
@@ -63,8 +60,10 @@ pub fn next<'a>(heap: Global, c: &mut Cursor<'a>) -> Result<Option<Statement<'a>
     ensures says { Tells (maybe stated_of) result c.new (next c.old.at c.old.rest.now) }
     ensures kept { Kept result c.old c.new }
 {
-    let (rest, at) = (c.rest, c.at);
-    let mut ahead = Cursor { rest, at };
+    let mut ahead = Cursor {
+        rest: c.rest,
+        at: c.at,
+    };
     let answer = read_next(heap, &mut ahead)?;
     *c = ahead;
     Ok(answer)
@@ -83,16 +82,14 @@ fn all_statements<'a>(heap: Global, c: &mut Cursor<'a>) -> Result<Vec<Statement<
 
 // All statements of a text, or its first fault.
 fn whole<'a>(heap: Global, text: &'a [u8]) -> Result<Vec<Statement<'a>>, Refusal>
-    ensures says { Answers result (manifest_of text.now) }
-    ensures admits { Admits result text.now }
-    ensures placed { Placed result text.now }
+    ensures { Answers result (manifest_of text.now) }
 {
     check(text)?;
-    let mut c = start(text);
-    all_statements(heap, &mut c)
+    all_statements(heap, &mut start(text))
 }
 
 // All statements of a text: those, and only those, that the grammar gives it.
+#[tactic(auto, using(crate::proofs::Law::admits, crate::proofs::Place::placed))]
 pub fn manifest<'a>(heap: Global, text: &'a [u8]) -> Result<Vec<Statement<'a>>, Refusal>
     ensures says { Answers result (manifest_of text.now) }
     ensures admits { Admits result text.now }

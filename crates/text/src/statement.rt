@@ -1,8 +1,7 @@
 // Statements, read from their first byte to the end of their block.
-ghost use Rattle.std.specs.Prelude.{◌≡◌, []};
 ghost use Rattle.cursor.specs.Told.{maybe};
 ghost use Rattle.parts.specs.Parts.{Tells};
-ghost use Rattle.text.specs.Text.{declared, head_of, edge, work_of, by_word, statement, said_of, at_start, next, stated_of};
+ghost use Rattle.text.specs.Text.{declared, head_of, edge, work_of, statement, said_of, at_start, next, stated_of};
 
 use crate::kinds::{Body, Declared, Edge, Statement};
 use byteclass::{Word, word_at};

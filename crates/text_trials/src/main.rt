@@ -124,8 +124,8 @@ static TEXTS: [&[u8]; 117] = [
 // Prints what a text comes to, each line after two spaces.
 fn show(rt: &HostRuntime, manifest: &[u8]) -> anyhow::Result<()> {
     let told = outline::outline(rt.alloc(), manifest)?;
-    let text = String::from_utf8_lossy(rt.alloc(), told.as_slice())?;
-    for line in text.as_str().lines() {
+    let text = String::from_utf8_lossy(rt.alloc(), &told)?;
+    for line in text.lines() {
         println!(rt; "  {line}")?;
     }
     Ok(())
@@ -134,13 +134,13 @@ fn show(rt: &HostRuntime, manifest: &[u8]) -> anyhow::Result<()> {
 // A text of so many equal bytes.
 fn show_many(rt: &HostRuntime, b: u8, n: usize) -> anyhow::Result<()> {
     let many = vec![in rt.alloc(); b; n]?;
-    show(rt, many.as_slice())
+    show(rt, &many)
 }
 
 fn main(rt: HostRuntime) -> anyhow::Result<()> {
     for (i, t) in TEXTS.iter().enumerate() {
         println!(rt; "{}: {}", i + 1, t.escape_ascii())?;
-        show(&rt, *t)?;
+        show(&rt, t)?;
     }
     println!(rt; "65535 line ends")?;
     show_many(&rt, b'\n', 65535)?;

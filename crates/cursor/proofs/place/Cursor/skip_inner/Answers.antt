@@ -1,9 +1,6 @@
 use Rattle.std.proofs.Common.{length, ap, arith, length-drop, rules}
-use Rattle.cursor.proofs.Inner.{walk_inner, inner_within}
+use Rattle.cursor.proofs.Inner.{walk_inner}
 use Rattle.cursor.proofs.place.Cursor.skip_inner.Goals as goal
-
-pub advance-requires : goal.advance-requires
-advance-requires c = search (rules, inner_within)
 
 pub returns : goal.returns
 returns c = record { run = search (rules, walk_inner); less = omega (arith, ap length c.advance.ensures.rest, length-drop c.inner_len-n.result c.args.self.now.rest.now) }

@@ -1,8 +1,0 @@
-use Rattle.std.proofs.Common.{codes, rules}
-use Rattle.byteclass.proofs.Same.{not_same}
-use Rattle.byteclass.proofs.words.pool_takes.Goals as goal
-
-pub returns-in_default : goal.returns-in_default
-returns-in_default c =
-    let n = c.args.name.now in
-    rw (not_same n (codes "depth") (search rules))
