@@ -1,5 +1,6 @@
 // The order of the edges: a rank for each one above those of the edges that it needs, or the lowest edge on a circle.
 ghost use Rattle.std.specs.Prelude.{◌≡◌, ℕ, ◌<◌, ◌||◌, ◌++◌, map, length, IfOk, vec_items, vec_len, OnOk};
+ghost use Rattle.graph.specs.declared.circle.Unranked.TheVariants.{Memory};
 ghost use Rattle.graph.specs.Data.{file_of, edge_of, maker_at};
 ghost use Rattle.graph.specs.Circle.{is_maker, inputs_of, makes_one, needs, reaches, least, Says, Tells};
 ghost use Rattle.graph.specs.Rows.{bit, row_at, set_bits, Row, Square, Table, Passed, passed};
@@ -7,12 +8,21 @@ ghost use Rattle.graph.specs.Rows.{bit, row_at, set_bits, Row, Square, Table, Pa
 use crate::kinds::{Edge, File};
 use std::alloc::{AllocError, Global};
 
-#[derive(Drop)]
-pub enum Ranking {
-    // for each edge, how many edges it reaches
-    Ranks(Vec<usize>),
+// Why the edges of a graph have no order.
+#[derive(Clone, Copy, Debug, PartialEq)]
+pub enum Unranked {
     // the lowest edge that reaches itself
     Circle(usize),
+    // there is no memory for the answer
+    Memory,
+}
+
+impl From<AllocError> for Unranked {
+    ghost from_gives = { λ _ r. r ≡ Memory };
+
+    fn from(_e: AllocError) -> Unranked {
+        Unranked::Memory
+    }
 }
 
 // The edge that makes a file.
@@ -175,28 +185,14 @@ fn ranks(heap: Global, rows: &[Vec<bool>]) -> Result<Vec<usize>, AllocError>
     Ok(v)
 }
 
-// The answer that the table of what reaches what gives. The files and edges are there for the contract.
-fn answer(
-    heap: Global,
-    files: &[File],
-    edges: &[Edge],
-    rows: &[Vec<bool>],
-) -> Result<Ranking, AllocError>
-    requires { Table (length (map edge_of edges.now)) (reaches (map file_of files.now) (map edge_of edges.now)) (map vec_items rows.now) }
-    ensures says { Says (map file_of files.now) (map edge_of edges.now) result }
-    ensures law { Tells (map file_of files.now) (map edge_of edges.now) result }
-{
-    match lowest(rows) {
-        Some(c) => Ok(Ranking::Circle(c)),
-        None => Ok(Ranking::Ranks(ranks(heap, rows)?)),
-    }
-}
-
-// A rank for each edge, or the lowest edge on a circle. Order-only inputs count, validations do not.
-pub fn order(heap: Global, files: &[File], edges: &[Edge]) -> Result<Ranking, AllocError>
+// How many edges each edge reaches, or the lowest edge on a circle. Order-only inputs count, validations do not.
+pub fn order(heap: Global, files: &[File], edges: &[Edge]) -> Result<Vec<usize>, Unranked>
     ensures says { Says (map file_of files.now) (map edge_of edges.now) result }
     ensures law { Tells (map file_of files.now) (map edge_of edges.now) result }
 {
     let rows = closed_rows(heap, files, edges)?;
-    answer(heap, files, edges, rows.as_slice())
+    if let Some(c) = lowest(&rows) {
+        return Err(Unranked::Circle(c));
+    }
+    Ok(ranks(heap, &rows)?)
 }
