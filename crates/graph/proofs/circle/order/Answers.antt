@@ -23,5 +23,5 @@ returns c =
     let v = c.in_ok-ranks.field-0 in
     let t = subst (λ xs. Table (length es) (reaches fs es) (map vec_items xs)) (sym c.deref.ensures.value) c.in_ok-rows.ensures in
     let off : circle_of fs es ≡ None = sym (circle_same fs es c.deref.result.now t) ∙ sym c.lowest.ensures ∙ c.in_default.is in
-    let is : vec_items v ≡ ranks_of fs es = c.in_ok-ranks.ensures ∙ ap (λ xs. map set_bits (map vec_items xs)) c.deref-2.ensures.value ∙ ranks_same fs es rows c.in_ok-rows.ensures in
+    let is : vec_items v ≡ ranks_of fs es = c.in_ok-ranks.ensures ∙ ap (map (λ row. set_bits (vec_items row))) c.deref-2.ensures.value ∙ ranks_same fs es rows c.in_ok-rows.ensures in
     record { says = (off, is); law = says_tells fs es (Ok v) (off, is) }
