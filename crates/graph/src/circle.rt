@@ -80,7 +80,7 @@ fn join(row: &mut [bool], other: &[bool])
     requires { length row.old ≡ length other.now }
     ensures { (d : ℕ) → d < length row.old → bit row.new d ≡ (bit row.old d || bit other.now d) }
 {
-    // No `zip`: a proof does not know what is written through an adapter of `iter_mut`.
+    // By number, and no `zip`: a proof does not know what is written through an `iter_mut` inside a `zip`.
     for (j, b) in row.iter_mut().enumerate() {
         *b |= other[j];
     }
