@@ -10,9 +10,9 @@ returns c =
     let l1 : length c.mark.new.row ≡ c.in_ok-row.row.len = omega arith in
     let l2 : length c.mark-2.new.row ≡ c.in_ok-row.row.len = omega arith in
     marked_twice (map file_of c.args.files.now) c.args.reads.now c.args.order_only.now c.args.n
-    c.as_mut_slice.result.now c.mark.new.row c.as_mut_slice-2.result.now c.mark-2.new.row _
-    (c.as_mut_slice.ensures.value ∙ c.in_ok-row.ensures.items_if_clones_equal (λ y e. e))
-    (c.as_mut_slice-2.ensures.value ∙ refill _ _ _ l1)
+    c.deref_mut.result.now c.mark.new.row c.deref_mut-2.result.now c.mark-2.new.row _
+    (c.deref_mut.ensures.value ∙ c.in_ok-row.ensures.items_if_clones_equal (λ y e. e))
+    (c.deref_mut-2.ensures.value ∙ refill _ _ _ l1)
     (refill _ _ _ l2)
     (l2 ∙ long)
     (λ d h. c.mark.ensures d (omega arith))
