@@ -10,12 +10,6 @@ whole_is u xs l w h =
     sym (take-append-drop u xs) ∙ ap (λ z. take u xs ++ z) (h ∙ ap (λ n. replicate (32768 - n) 0) (sym (length-take-le u xs b)))
 
 module _ (u : ℕ) (xs t ys : List ℕ) (b : u + length t ≤ length xs) (e : ys ≡ take u xs ++ (t ++ drop (u + length t) xs)) where
-  -- a text that is written behind the used bytes
-  pub used_after : take (u + length t) ys ≡ take u xs ++ t
-  used_after =
-      let f : length (take u xs ++ t) ≡ u + length t = length-append (take u xs) t ∙ ap (λ n. n + length t) (length-take-le u xs (omega arith)) in
-      ap (take (u + length t)) (e ∙ sym (append_assoc (take u xs) t (drop (u + length t) xs))) ∙ take_at (take u xs ++ t) (drop (u + length t) xs) (u + length t) f
-
   -- what lies behind it is what lay there
   pub rest_after : (n : ℕ) → drop u xs ≡ replicate (n - u) 0 → drop (u + length t) ys ≡ replicate (n - (u + length t)) 0
   rest_after n h =
