@@ -19,10 +19,7 @@ impl<'a> Texts<'a> {
     fn block_at(&self, e: usize) -> &[Variable<'a>]
         ensures { (u : List ℕ) → entries_in u result.now ≡ slice_index_or (blocks_in u self.now.closed.items) e [] }
     {
-        self.closed
-            .get(e)
-            .map(|b| b.as_slice())
-            .unwrap_or_default()
+        self.closed.get(e).map(|b| b.as_slice()).unwrap_or_default()
     }
 
     // The text of a variable of an edge's block.

@@ -11,8 +11,5 @@ pub fn depth_of(text: &[u8]) -> Option<usize>
         [a @ b'1'..=b'9', b @ b'0'..=b'9'] => 10 * usize::from(a - b'0') + usize::from(b - b'0'),
         _ => return None,
     };
-    if depth > 64 {
-        return None;
-    }
-    Some(depth)
+    (depth <= 64).then_some(depth)
 }

@@ -14,11 +14,7 @@ use store::calls::past;
 use store::{Stop, Store, Variable, Wrong};
 
 // The text of a variable: a part of the manifest or of the store.
-pub fn find<'a, 'b>(
-    store: &'b Store,
-    vars: &'b [Variable<'a>],
-    name: &[u8],
-) -> Option<&'b [u8]>
+pub fn find<'b>(store: &'b Store, vars: &'b [Variable<'b>], name: &[u8]) -> Option<&'b [u8]>
     ensures { maybe (λ x. x.now) result ≡ find (entries_in (used_of store.now) vars.now) name.now }
 {
     vars.iter()
@@ -100,6 +96,7 @@ pub(crate) fn expand_into<'b>(
     requires { vec_len out.old ≤ limit }
     ensures { Fills result limit (out.old.items ++ expand_from (look (scope_of c.entry)) 0 value.now) out.new.items }
 {
+    // Each turn takes one part, whose length its own bytes decide: no iterator of the library steps so.
     let mut rest = value;
     while !rest.is_empty() {
         let (text, after) = part_at(c, rest);

@@ -19,5 +19,5 @@ returns c =
     let both = YieldsList-from_chain (YieldsList-from_slice l.special.now cc) (YieldsList-from_slice l.block.now b) one.first_done one.second_done in
     let all = YieldsList-from_chain (YieldsList-at two.first both) (YieldsList-from_slice l.file.now f) two.first_done two.second_done in
     let found = found_text u ((l.special.now ++ l.block.now) ++ l.file.now) n _ (λ x t p. search rules) c.find.result c.map.result c.map.ensures.cases
-        (find_from_yields_List (λ v. bytes_eq v.name.now n) _ _ _ c.find.ensures.ran all (λ x b q k. search (rules, tests))) in
+    (find_from_yields_List (λ v. bytes_eq v.name.now n) _ _ _ c.find.ensures.ran all (λ x b q k. search (rules, tests))) in
     or_empty c.map.result _ _ (found ∙ look_is u l.special.now l.block.now l.file.now n) c.unwrap_or_default.ensures
