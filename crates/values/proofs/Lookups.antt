@@ -1,5 +1,5 @@
 -- A variable by its name: its place, its text, and the list after it is set.
-use Rattle.std.proofs.Common.{◌≡◌, ℕ, zero, suc, ◌+◌, ◌-◌, ◌<◌, ◌≤◌, max, Bool, true, false, cond, List, [], ◌∷◌, ◌++◌, length, get_or, set, Some, None, Option, Bor, sym, refl, ap, ◌∙◌, zero-add, arith}
+use Rattle.std.proofs.Common.{◌≡◌, ℕ, zero, suc, ◌+◌, ◌<◌, ◌≤◌, max, Bool, true, false, cond, List, [], ◌∷◌, ◌++◌, length, get_or, set, Some, None, Option, Bor, sym, refl, ap, ◌∙◌, zero-add, arith}
 use Rattle.std.specs.Option.{option_map, unwrap_or, MatchOption, IsSomeAnd, UnwrapsOrElse}
 use Rattle.std.specs.List.{find as first_that}
 use Rattle.cursor.specs.Told.{maybe}
@@ -8,8 +8,7 @@ use Rattle.store.specs.declared.text.Variable.{Variable}
 use Rattle.store.specs.Held.{text_in, entry_in, entries_in, place_from_on, reach, furthest}
 use Rattle.values.specs.Expand.{find, or_else}
 use Rattle.std.proofs.lemmas.Bool.{lt-ltb, le-ltb}
-use Rattle.std.proofs.lemmas.List.{length-map, length_push, get_or_at, set-append_left, take_at, length-set}
-use Rattle.std.specs.List.{swap_remove}
+use Rattle.std.proofs.lemmas.List.{length-map}
 use Rattle.store.specs.declared.wrong.Wrong.TheVariants.{Limit}
 use Rattle.store.specs.Try.{got, wrong}
 use Rattle.values.specs.Kept.{bind, bound}
@@ -123,9 +122,3 @@ module _ (u : List ℕ) (k : ℕ) (vs : List Variable) (v : Variable) where
 
   pub bound_full : place_from_on 0 vs v.name.now ≡ None → k ≤ length vs → wrong Limit ≡ bound k (entries_in u vs) (entry_in u v)
   bound_full h l = rw (none_find u vs v.name.now 0 h, length-map vs (entry_in u), le-ltb (length vs) k l)
-
--- a variable that is pushed, and then put in the place of another
-pub swap_in : (vs : List Variable) (v r : Variable) (i : ℕ) → i < length vs → swap_remove (vs ++ v ∷ []) i r ≡ set vs i v
-swap_in vs v r i h =
-    let n : length (vs ++ v ∷ []) - 1 ≡ length vs = omega (arith, length_push vs v) in
-    rw (n, get_or_at vs v [] r (length vs) refl, set-append_left vs (v ∷ []) i v h) (take_at (set vs i v) (v ∷ []) (length vs) (length-set vs i v))

@@ -4,7 +4,7 @@ use Rattle.std.proofs.lemmas.List.{take_rest, drop-drop}
 use Rattle.store.specs.declared.wrong.Stop.{Stop}
 use Rattle.store.specs.declared.wrong.Stop.TheVariants.{Because, Memory}
 use Rattle.byteclass.specs.Class.{name_byte}
-use Rattle.values.specs.Expand.{front, blank, plain, dollar, piece, expand_from}
+use Rattle.values.specs.Expand.{front, plain, dollar, piece, expand_from}
 use Rattle.values.specs.Fills.{Overruns}
 
 module _ (f : List ℕ → List ℕ) where

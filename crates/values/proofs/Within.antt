@@ -1,7 +1,6 @@
 -- Texts within limits, and what is kept of them.
-use Rattle.std.proofs.Common.{◌≡◌, ℕ, ◌+◌, ◌<◌, ◌≤◌, true, false, ◌&&◌, leb, List, ◌++◌, length, take, drop, IfOk, Ok, Err, Result, sym, ap, ◌∙◌, subst, arith}
+use Rattle.std.proofs.Common.{◌≡◌, ℕ, ◌<◌, ◌≤◌, true, false, ◌&&◌, leb, List, length, IfOk, Ok, Err, Result, sym, ap, ◌∙◌, subst, arith}
 use Rattle.std.proofs.lemmas.Bool.{le-leb, lt-leb, and_from, and_left, and_right}
-use Rattle.std.proofs.lemmas.List.{take_all, drop_at, length-append}
 use Rattle.store.specs.declared.wrong.Wrong.{Wrong}
 use Rattle.store.specs.declared.wrong.Wrong.TheVariants.{Limit}
 use Rattle.store.specs.declared.wrong.Stop.{Stop}
@@ -79,13 +78,3 @@ received_is s v t d = rw d
 pub kept_after : (low high : ℕ) (c : Scope) (s v t u : List ℕ) → dollar v ≡ true → got t ≡ sized low high (expand (look c) v) → (r : Result Text Stop) → Gives (λ _. u) r (stored s t) → IfOk r (λ x. text_in u x ≡ t) → Gives (kept_in u) r (keep low high c s v)
 kept_after low high c s v t u d h (Ok x) g e = rw e (keep_got low high c s v t u h (g ∙ sym (received_is s v t d)))
 kept_after low high c s v t u d h (Err e) g _ = keep_full low high c s v t h e (subst (Stops e) (sym (received_is s v t d)) g)
-
--- the text that was put behind the used bytes
-pub put_text : (u t w : List ℕ) (a n : ℕ) → w ≡ u ++ t → a ≡ length u → n ≡ length t → take n (drop a w) ≡ t
-put_text u t w a n e p q = ap (λ z. take n (drop a z)) e ∙ ap (take n) (drop_at u t a (sym p)) ∙ take_all n t (omega arith)
-
-pub put_reach : (u t w : List ℕ) (a n : ℕ) → w ≡ u ++ t → a ≡ length u → n ≡ length t → a + n ≤ length w
-put_reach u t w a n e p q = omega (arith, ap length e, length-append u t)
-
-pub take_same : (u : List ℕ) → take (length u) u ≡ u
-take_same u = take_all (length u) u (omega arith)

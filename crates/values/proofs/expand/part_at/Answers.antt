@@ -1,7 +1,7 @@
 use Rattle.std.proofs.Common.{◌≡◌, ◌<◌, length, drop, ap, sym, ◌∙◌, arith, rules, tests}
 use Rattle.std.proofs.lemmas.List.{length-drop}
 use Rattle.std.proofs.lemmas.Bool.Decides.{nat_tests}
-use Rattle.values.specs.Expand.{look, piece, front, plain}
+use Rattle.values.specs.Expand.{look, piece, plain}
 use Rattle.values.specs.Scopes.{scope_of}
 use Rattle.values.proofs.Runs.{no_run, some_run}
 use Rattle.values.proofs.Pieces.{plain_run, at_dollar}
