@@ -1,3 +1,2 @@
 pub mod Model
-pub mod Steps
 pub mod Meaning

@@ -4,7 +4,6 @@
 mod bind;
 pub mod reads;
 pub mod rules;
-mod steps;
 pub mod texts;
 
 pub use texts::Texts;

@@ -2,59 +2,31 @@
 ghost use Rattle.std.specs.Prelude.{◌≡◌, ℕ, List, [], slice_index_or};
 ghost use Rattle.cursor.specs.Told.{maybe};
 ghost use Rattle.store.specs.Try.{Gives};
-ghost use Rattle.store.specs.Stores.{used_of};
 ghost use Rattle.store.specs.Held.{entries_in, blocks_in};
-ghost use Rattle.values.specs.Expand.{find, look, expand};
-ghost use Rattle.values.specs.Kept.{sized};
+ghost use Rattle.values.specs.Expand.{find};
 ghost use Rattle.expansion.specs.Model.{rule_value};
-ghost use Rattle.values.specs.Scopes.{scope_in};
 ghost use Rattle.expansion.specs.Meaning.{texts_of};
 
+use crate::reads::VALUE;
 use crate::texts::Texts;
-use store::{Stop, Store, Text, Variable};
+use store::{Stop, Text, Variable};
 use values::expand::find;
 use values::keep::expand_within;
-use values::scope::Names;
-
-// The longest value.
-const TEXT: usize = 1024;
-
-// The variables of a closed block.
-fn block_at<'a, 'b>(blocks: &'b [Vec<Variable<'a>>], e: usize) -> &'b [Variable<'a>]
-    ensures { (u : List ℕ) → entries_in u result.now ≡ slice_index_or (blocks_in u blocks.now) e [] }
-{
-    if e < blocks.len() {
-        return blocks[e].as_slice();
-    }
-    &[]
-}
-
-// Leaves in `out` what a rule's value stands for.
-fn expand_rule<'b>(
-    store: &'b Store,
-    special: &'b [Variable<'b>],
-    block: &'b [Variable<'b>],
-    file: &'b [Variable<'b>],
-    v: &'b [u8],
-    out: &mut Vec<u8>,
-) -> Result<(), Stop>
-    ensures { Gives (λ _. out.new.items) result (sized 0 1024 (expand (look (scope_in (used_of store.now) special.now block.now file.now)) v.now)) }
-{
-    let c = Names {
-        store,
-        special,
-        block,
-        file,
-    };
-    expand_within(c, 0, TEXT, v, out)
-}
+use values::scope::{Lists, Names};
 
 impl<'a> Texts<'a> {
+    // The variables of an edge's block: none, if no block was closed for it.
+    fn block_at(&self, e: usize) -> &[Variable<'a>]
+        ensures { (u : List ℕ) → entries_in u result.now ≡ slice_index_or (blocks_in u self.now.closed.items) e [] }
+    {
+        self.closed.get(e).map(|b| b.as_slice()).unwrap_or_default()
+    }
+
     // The text of a variable of an edge's block.
     pub fn block_value<'b>(&'b self, e: usize, name: &[u8]) -> Option<&'b [u8]>
         ensures { maybe (λ x. x.now) result ≡ find (slice_index_or (texts_of self.now).blocks e []) name.now }
     {
-        find(&self.store, block_at(self.closed.as_slice(), e), name)
+        find(&self.store, self.block_at(e), name)
     }
 
     // Leaves in `out` what a rule's value stands for at an edge, of whose paths the names `in` and `out` speak.
@@ -78,7 +50,15 @@ impl<'a> Texts<'a> {
                 value: Text::Manifest(outs),
             },
         ];
-        let block = block_at(self.closed.as_slice(), e);
-        expand_rule(&self.store, &special, block, self.file.as_slice(), v, out)
+        let lists = Lists {
+            special: &special,
+            block: self.block_at(e),
+            file: &self.file,
+        };
+        let names = Names {
+            store: &self.store,
+            lists,
+        };
+        expand_within(names, VALUE, v, out)
     }
 }

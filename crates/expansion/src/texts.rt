@@ -10,6 +10,7 @@ pub struct Texts<'a> {
     pub(crate) store: Store,
     pub(crate) file: Vec<Variable<'a>>,
     pub(crate) block: Vec<Variable<'a>>,
+    // the block of each edge, by the edge's number: the edges themselves lie in the graph, which knows nothing of variables
     pub(crate) closed: Vec<Vec<Variable<'a>>>,
     pub(crate) scratch: Vec<u8>,
     ghost file_lies: { furthest file.items ≤ length (used_of store) },

@@ -1,31 +1,20 @@
 -- Names that are the same or not, and one step more of a search for one.
-use Rattle.std.proofs.Common.{◌≡◌, ℕ, ◌+◌, ◌<◌, ◌≤◌, true, false, cond, List, [], ◌∷◌, map, length, get_or, drop, is_some, Some, None, Option, sym, refl, ap, ◌∙◌, ⊎_elim, Bor}
+use Rattle.std.proofs.Common.{◌≡◌, ℕ, ◌+◌, Bool, true, false, cond, List, [], ◌∷◌, map, reverse, is_some, Some, None, Option, sym, refl, ap, ◌∙◌, ⊎_elim, Bor}
 use Rattle.std.specs.Str.{bytes_eq}
-use Rattle.std.proofs.lemmas.List.{drop_more, drop_all}
+use Rattle.std.specs.List.{find}
+use Rattle.std.specs.Option.{option_map, option_or, MatchOption, IsSomeAnd}
+use Rattle.std.proofs.lemmas.List.{reverse-append}
+use Rattle.std.proofs.lemmas.List.Folds.{find-append}
 use Rattle.std.proofs.lemmas.Bool.{cases_Bool}
 use Rattle.std.proofs.lemmas.Slice.Eq.{bytes_eq-Decides}
 use Rattle.cursor.specs.Told.{maybe}
 use Rattle.parts.specs.Parts.{entry_of}
 use Rattle.parts.specs.declared.kinds.Binding.{Binding}
-use Rattle.names.specs.Named.{place_from_on, last_from}
+use Rattle.names.specs.Named.{place_from_on, last_from, last_of}
 
 pub not_same : (xs ys : List ℕ) → (xs ≡ ys → ⊥) → false ≡ bytes_eq xs ys
 not_same xs ys n =
     ⊎_elim (λ t. absurd (n ((bytes_eq-Decides xs ys).0 t))) sym (cases_Bool (bytes_eq xs ys))
-
-module _ {X : Type 0} (xs : List X) (i : ℕ) (x : X) where
-  pub drop_item : i < length xs → x ≡ get_or xs i x → drop i xs ≡ x ∷ drop (i + 1) xs
-  drop_item h e = drop_more xs i x h ∙ ap (λ y. y ∷ drop (i + 1) xs) (sym e)
-
-module _ {X : Type 0} (f : X → List ℕ) (xs : List X) (n : List ℕ) (i : ℕ) where
-  pub place_more : (x : X) → i < length xs → x ≡ get_or xs i x → bytes_eq (f x) n ≡ false → place_from_on f (i + 1) (drop (i + 1) xs) n ≡ place_from_on f i (drop i xs) n
-  place_more x h e t = rw (drop_item xs i x h e, t)
-
-  pub place_here : (x : X) → i < length xs → x ≡ get_or xs i x → bytes_eq (f x) n ≡ true → Some i ≡ place_from_on f i (drop i xs) n
-  place_here x h e t = rw (drop_item xs i x h e, t)
-
-  pub place_none : length xs ≤ i → None ≡ place_from_on f i (drop i xs) n
-  place_none h = rw (drop_all i xs h)
 
 -- a search among what is seen of each element
 pub place_map : {X Y : Type 0} (f : Y → List ℕ) (g : X → Y) (i : ℕ) (xs : List X) (n : List ℕ) → place_from_on f i (map g xs) n ≡ place_from_on (λ x. f (g x)) i xs n
@@ -40,9 +29,26 @@ pub some_maybe : {X Y : Type 0} (g : X → Y) (o : Option X) → is_some o ≡ i
 some_maybe g None = refl
 some_maybe g (Some x) = refl
 
-module _ (bs : List Binding) (n : List ℕ) (i : ℕ) where
-  pub last_more : (d f : Option (Bor (List ℕ))) (x : Binding) → i < length bs → maybe (λ x. x.now) f ≡ cond (bytes_eq (get_or bs i x).name.now n) (Some (get_or bs i x).value.now) (maybe (λ x. x.now) d) → last_from (maybe (λ x. x.now) f) (map entry_of (drop (i + 1) bs)) n ≡ last_from (maybe (λ x. x.now) d) (map entry_of (drop i bs)) n
-  last_more d f x h e = rw (drop_more bs i x h, e)
+module _ (n : List ℕ) where
+  abbrev named : Binding → Bool
+  named b = bytes_eq b.name.now n
 
-  pub last_none : (d : Option (Bor (List ℕ))) → length bs ≤ i → maybe (λ x. x.now) d ≡ last_from (maybe (λ x. x.now) d) (map entry_of (drop i bs)) n
-  last_none d h = rw (drop_all i bs h)
+  abbrev value_of : Option Binding → Option (List ℕ)
+  value_of o = option_map (λ b. b.value.now) o
+
+  -- the last value is that of the first line of the name from the end on
+  last_is : (bs : List Binding) (d : Option (List ℕ)) → last_from d (map entry_of bs) n ≡ option_or (value_of (find named (reverse bs))) d
+  last_is [] d = refl
+  last_is (b ∷ bs) d = last_is bs _ ∙ at (named b) (find named (reverse bs)) ∙ ap (λ o. option_or (value_of o) d) (sym (find-append named (reverse bs) (b ∷ [])) ∙ ap (find named) (sym (reverse-append (b ∷ []) bs)))
+    where
+      at : (t : Bool) (o : Option Binding) → option_or (value_of o) (cond t (Some b.value.now) d) ≡ option_or (value_of (option_or o (cond t (Some b) None))) d
+      at true None = refl
+      at true (Some x) = refl
+      at false None = refl
+      at false (Some x) = refl
+
+  -- a line that was found from the end on, and its value
+  pub found_value : (bs : List Binding) (P : Bor Binding → Bor (List ℕ) → Type 0) → ((x : Bor Binding) (t : Bor (List ℕ)) → P x t → t.now ≡ x.now.value.now) → (r : Option (Bor Binding)) (m : Option (Bor (List ℕ))) → MatchOption r (m ≡ None) (λ x. IsSomeAnd m (P x)) → option_map (λ x. x.now) r ≡ find named (reverse bs) → maybe (λ x. x.now) m ≡ last_of (map entry_of bs) n
+  found_value bs P k None m h e = rw (h, last_is bs None, ← e)
+  found_value bs P k (Some x) None h e = absurd h
+  found_value bs P k (Some x) (Some t) h e = rw (last_is bs None, ← e, k x t h)

@@ -1,12 +1,12 @@
 -- Names: where a list has one, and the last value that lines give to one.
-use Rattle.std.specs.Prelude.{ℕ, ◌+◌, cond, List, [], ◌∷◌, Some, None, Option}
+use Rattle.std.specs.Prelude.{ℕ, cond, List, [], ◌∷◌, Some, None, Option}
+use Rattle.std.specs.List.{position_from}
 use Rattle.std.specs.Str.{bytes_eq}
 use Rattle.parts.specs.Parts.{Entry}
 
 -- the place of the first element of xs, counted from i, whose name is n
 abbrev pub place_from_on : {A : Type 0} → (A → List ℕ) → ℕ → List A → List ℕ → Option ℕ
-place_from_on f i [] n = None
-place_from_on f i (x ∷ xs) n = cond (bytes_eq (f x) n) (Some i) (place_from_on f (i + 1) xs n)
+place_from_on f i xs n = position_from (λ x. bytes_eq (f x) n) i xs
 
 -- the last value that the lines give to n, d if they give none
 abbrev pub last_from : Option (List ℕ) → List Entry → List ℕ → Option (List ℕ)

@@ -29,7 +29,7 @@ impl Named for Pool {
     ghost named = { λ p. p.name.items };
 
     fn name(&self) -> &[u8] {
-        self.name.as_slice()
+        &self.name
     }
 }
 
@@ -37,7 +37,7 @@ impl Named for File {
     ghost named = { λ f. f.path.items };
 
     fn name(&self) -> &[u8] {
-        self.path.as_slice()
+        &self.path
     }
 }
 
@@ -54,41 +54,20 @@ fn same(a: &[u8], b: &[u8]) -> bool
     a == b
 }
 
-// The first element of the name.
-fn first_of<T: Named>(all: &[T], name: &[u8]) -> Option<usize>
-    ensures { result ≡ place_from_on T.named 0 all.now name.now }
-{
-    for (i, x) in all.iter().enumerate() {
-        if same(x.name(), name) {
-            return Some(i);
-        }
-    }
-    None
-}
-
 // The place of the first element of the name.
 pub fn place_of<T: Named>(all: &[T], name: &[u8]) -> Option<usize>
     ensures { result ≡ place_from_on T.named 0 all.now name.now }
 {
-    first_of(all, name)
-}
-
-// The value of the last line of the name.
-fn last_of<'a>(lines: &[Binding<'a>], name: &[u8]) -> Option<&'a [u8]>
-    ensures { maybe (λ x. x.now) result ≡ last_of (map entry_of lines.now) name.now }
-{
-    let mut found: Option<&'a [u8]> = None;
-    for b in lines {
-        if same(b.name, name) {
-            found = Some(b.value);
-        }
-    }
-    found
+    all.iter().position(|x| same(x.name(), name))
 }
 
 // The last value that lines give to a name.
 pub fn last_value<'a>(lines: &[Binding<'a>], name: &[u8]) -> Option<&'a [u8]>
     ensures { maybe (λ x. x.now) result ≡ last_of (map entry_of lines.now) name.now }
 {
-    last_of(lines, name)
+    lines
+        .iter()
+        .rev()
+        .find(|b| same(b.name, name))
+        .map(|b| b.value)
 }

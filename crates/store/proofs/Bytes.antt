@@ -1,21 +1,9 @@
 -- The bytes of a store, before and after a text is added.
 use Rattle.std.proofs.Common.{◌≡◌, ℕ, ◌+◌, ◌-◌, ◌≤◌, List, ◌++◌, length, take, drop, replicate, sym, ap, ◌∙◌, arith}
 use borrow.Rule.Slice.PartMut.{put_mid}
-use Rattle.std.proofs.lemmas.List.{take-append-drop, length-take-le, drop-drop, drop-replicate, drop_at, take_at, append_assoc, length-append, length-drop}
-
--- all bytes are the used ones, with zeros behind them
-pub whole_is : (u : ℕ) (xs : List ℕ) → length xs ≡ 32768 → u ≤ 32768 → drop u xs ≡ replicate (32768 - u) 0 → xs ≡ take u xs ++ replicate (32768 - length (take u xs)) 0
-whole_is u xs l w h =
-    let b : u ≤ length xs = omega arith in
-    sym (take-append-drop u xs) ∙ ap (λ z. take u xs ++ z) (h ∙ ap (λ n. replicate (32768 - n) 0) (sym (length-take-le u xs b)))
+use Rattle.std.proofs.lemmas.List.{length-take-le, drop-drop, drop-replicate, drop_at, take_at, append_assoc, length-append, length-drop}
 
 module _ (u : ℕ) (xs t ys : List ℕ) (b : u + length t ≤ length xs) (e : ys ≡ take u xs ++ (t ++ drop (u + length t) xs)) where
-  -- a text that is written behind the used bytes
-  pub used_after : take (u + length t) ys ≡ take u xs ++ t
-  used_after =
-      let f : length (take u xs ++ t) ≡ u + length t = length-append (take u xs) t ∙ ap (λ n. n + length t) (length-take-le u xs (omega arith)) in
-      ap (take (u + length t)) (e ∙ sym (append_assoc (take u xs) t (drop (u + length t) xs))) ∙ take_at (take u xs ++ t) (drop (u + length t) xs) (u + length t) f
-
   -- what lies behind it is what lay there
   pub rest_after : (n : ℕ) → drop u xs ≡ replicate (n - u) 0 → drop (u + length t) ys ≡ replicate (n - (u + length t)) 0
   rest_after n h =

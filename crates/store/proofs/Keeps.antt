@@ -1,6 +1,6 @@
 -- Texts stay as the store grows.
 use Rattle.std.proofs.Common.{◌≡◌, ℕ, ◌≤◌, List, [], ◌∷◌, ◌++◌, length, take, drop, vec_items, Vec, sym, refl, ap, ◌∙◌, arith}
-use Rattle.std.proofs.lemmas.List.{take_at, take-append-drop, take-append-le, drop-append-le, length-take, length-drop}
+use Rattle.std.proofs.lemmas.List.{take-append-drop, take-append-le, drop-append-le, length-drop}
 use Rattle.std.specs.declared.alloc.Global.{Global}
 use Rattle.store.specs.declared.text.Text.{Text}
 use Rattle.store.specs.declared.text.Text.TheVariants.{Manifest, Store}
@@ -9,9 +9,6 @@ use Rattle.store.specs.Held.{text_in, entries_in, blocks_in, reach, furthest, fu
 
 -- the store u has become v: v begins with u
 module _ (u v : List ℕ) (grown : take (length u) v ≡ u) where
-  pub grown_length : length u ≤ length v
-  grown_length = omega (arith, length-take (length u) v, ap length grown)
-
   pub text_kept : (t : Text) → reach t ≤ length u → text_in v t ≡ text_in u t
   text_kept (Manifest s) h = refl
   text_kept (Store a n) h =
@@ -27,7 +24,3 @@ module _ (u v : List ℕ) (grown : take (length u) v ≡ u) where
   pub blocks_kept : (bs : List (Vec Variable Global)) → furthest_in bs ≤ length u → blocks_in v bs ≡ blocks_in u bs
   blocks_kept [] h = refl
   blocks_kept (b ∷ bs) h = rw (entries_kept (vec_items b) (omega arith), blocks_kept bs (omega arith))
-
--- a store that a text was added to, or none
-pub grown_by : (u t : List ℕ) → take (length u) (u ++ t) ≡ u
-grown_by u t = take_at u t (length u) refl

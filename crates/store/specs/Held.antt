@@ -1,6 +1,7 @@
 -- What texts and variables hold, by the used bytes of the store.
-use Rattle.std.specs.Prelude.{ℕ, ◌+◌, max, cond, List, [], ◌∷◌, map, take, drop, Some, None, vec_items, Option, Vec}
+use Rattle.std.specs.Prelude.{ℕ, ◌+◌, max, List, [], ◌∷◌, map, take, drop, vec_items, Option, Vec}
 use Rattle.std.specs.declared.alloc.Global.{Global}
+use Rattle.std.specs.List.{position_from}
 use Rattle.std.specs.Str.{bytes_eq}
 use Rattle.parts.specs.Parts.{Entry}
 use Rattle.store.specs.declared.text.Text.{Text}
@@ -41,5 +42,4 @@ furthest_in (b ∷ bs) = max (furthest (vec_items b)) (furthest_in bs)
 
 -- the place of the first variable of the name n, where the first of vs has the place i
 abbrev pub place_from_on : ℕ → List Variable → List ℕ → Option ℕ
-place_from_on i [] n = None
-place_from_on i (v ∷ vs) n = cond (bytes_eq v.name.now n) (Some i) (place_from_on (i + 1) vs n)
+place_from_on i vs n = position_from (λ v. bytes_eq v.name.now n) i vs

@@ -13,7 +13,7 @@ impl Store {
     {
         match t {
             Text::Manifest(s) => s,
-            Text::Store(from, len) => self.part(from, len),
+            Text::Store { from, len } => self.part(from, len),
         }
     }
 }
@@ -23,10 +23,5 @@ pub fn place_of(vars: &[Variable], name: &[u8]) -> Option<usize>
     ensures is { result ≡ place_from_on 0 vars.now name.now }
     ensures below { IfSome result (λ i. i < length vars.now) }
 {
-    for (i, v) in vars.iter().enumerate() {
-        if v.name == name {
-            return Some(i);
-        }
-    }
-    None
+    vars.iter().position(|v| v.name == name)
 }

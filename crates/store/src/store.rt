@@ -1,6 +1,7 @@
 // The text store: 32,768 bytes, of which those that are not used are zeros.
 ghost use Rattle.std.specs.Prelude.{◌≡◌, ◌-◌, ◌≤◌, drop, replicate, vec_len};
 
+// Callers read and hash all 32,768 bytes, so the vector has them at all times, and `used` says where the zeros begin.
 #[derive(Drop)]
 pub struct Store {
     pub(crate) bytes: Vec<u8>,

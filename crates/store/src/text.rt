@@ -4,8 +4,8 @@
 pub enum Text<'a> {
     // a part of the manifest
     Manifest(&'a [u8]),
-    // from and length of a part of the store
-    Store(usize, usize),
+    // a part of the store
+    Store { from: usize, len: usize },
 }
 
 #[derive(Clone, Copy)]

@@ -20,6 +20,8 @@ pub enum Wrong {
     Circle,
 }
 
+// Other crates have such an enum for refusals of their own. One generic over the refusal could not have these impls:
+// a `From<E>` for every E overlaps that of `AllocError`.
 #[derive(Clone, Copy)]
 pub enum Stop {
     Because(Wrong),

@@ -1,4 +1,4 @@
 pub mod Runs
 pub mod Lookups
 pub mod Pieces
-pub mod Limits
+pub mod Within

@@ -1,11 +1,10 @@
 -- The text of a value, piece by piece.
 use Rattle.std.proofs.Common.{◌≡◌, ℕ, zero, suc, ◌+◌, ◌-◌, ◌<◌, ◌≤◌, Bool, true, false, cond, not, eqb, List, [], ◌∷◌, ◌++◌, length, get_or, take, drop, sym, refl, ap, ◌∙◌, append_assoc, append-nil, arith, length-append}
-use native.Mathlib.Nat.{sub-zero}
 use Rattle.std.proofs.lemmas.List.{take_rest, drop-drop}
 use Rattle.store.specs.declared.wrong.Stop.{Stop}
 use Rattle.store.specs.declared.wrong.Stop.TheVariants.{Because, Memory}
 use Rattle.byteclass.specs.Class.{name_byte}
-use Rattle.values.specs.Expand.{front, blank, plain, dollar, piece, expand_from}
+use Rattle.values.specs.Expand.{front, plain, dollar, piece, expand_from}
 use Rattle.values.specs.Fills.{Overruns}
 
 module _ (f : List ℕ → List ℕ) where
@@ -42,22 +41,13 @@ module _ (f : List ℕ → List ℕ) where
       at true e g = rw (p, m, q, e, expand_past (piece f s).taken s)
       at false e g = absurd (omega arith)
 
-  -- a line end with the spaces after it
-  pub piece_wrap : (s : List ℕ) (n : ℕ) (r : List ℕ) → 0 < length s → get_or s 0 0 ≡ 10 → n ≡ front blank (take (length s - 1) (drop 1 s)) → r ≡ drop n (take (length s - 1) (drop 1 s)) → ([] ≡ (piece f s).text) × (r ≡ drop (piece f s).taken s)
-  piece_wrap [] n r h e q w = absurd (omega arith)
-  piece_wrap (b ∷ s) n r h e q w =
+  -- what follows a name in braces
+  pub after_brace : (s r : List ℕ) → 0 < length s → get_or s 0 0 ≡ 123 → r ≡ drop 1 (drop (front name_byte (take (length s - 1) (drop 1 s))) (take (length s - 1) (drop 1 s))) → r ≡ drop (piece f s).taken s
+  after_brace [] r h e v = absurd (omega arith)
+  after_brace (b ∷ s) r h e v =
       let t = take_rest (b ∷ s) 1 in
-      let m : n ≡ front blank s = q ∙ ap (front blank) t in
-      (rw e, w ∙ rw (t, m, e))
-
-  -- a name in braces
-  pub piece_brace : (s : List ℕ) (n : ℕ) (x r : List ℕ) → 0 < length s → get_or s 0 0 ≡ 123 → n ≡ front name_byte (take (length s - 1) (drop 1 s)) → x ≡ f (take (n - 0) (take (length s - 1) (drop 1 s))) → r ≡ drop 1 (drop n (take (length s - 1) (drop 1 s))) → (x ≡ (piece f s).text) × (r ≡ drop (piece f s).taken s)
-  piece_brace [] n x r h e q w v = absurd (omega arith)
-  piece_brace (b ∷ s) n x r h e q w v =
-      let t = take_rest (b ∷ s) 1 in
-      let m : n ≡ front name_byte s = q ∙ ap (front name_byte) t in
       let k : front name_byte s + 1 ≡ suc (front name_byte s) = omega arith in
-      (w ∙ rw (e, t, sub-zero, m), v ∙ rw (t, m, e, drop-drop, k))
+      v ∙ rw (t, e, drop-drop, k)
 
 module _ (have want x t y : List ℕ) (same : have ++ x ≡ want) (cut : x ≡ t ++ y) where
   -- one piece more

@@ -2,3 +2,4 @@ pub mod Expand
 pub mod Kept
 pub mod Fills
 pub mod Scopes
+pub mod Tests

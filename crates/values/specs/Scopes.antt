@@ -14,7 +14,7 @@ scope_in u ss bs fs = record { special = entries_in u ss; block = entries_in u b
 
 -- the scope of names that are looked up
 abbrev pub scope_of : Names → Scope
-scope_of c = scope_in (used_of c.store.now) c.special.now c.block.now c.file.now
+scope_of c = scope_in (used_of c.store.now) c.lists.special.now c.lists.block.now c.lists.file.now
 
 -- a text that was kept, and the store after it
 abbrev pub kept_in : List ℕ → Text → Kept

@@ -7,20 +7,19 @@ ghost use Rattle.values.specs.Expand.{find, look, piece, expand_from};
 ghost use Rattle.values.specs.Scopes.{scope_of};
 ghost use Rattle.values.specs.Fills.{Fills};
 
-use crate::scan::{name_len, plain_len, simple_len, spaces};
-use crate::scope::Names;
+use crate::scan::split_run;
+use crate::scope::{Lists, Names};
+use byteclass::{is_name, is_simple};
 use store::calls::past;
-use store::held::place_of;
 use store::{Stop, Store, Variable, Wrong};
 
 // The text of a variable: a part of the manifest or of the store.
 pub fn find<'b>(store: &'b Store, vars: &'b [Variable<'b>], name: &[u8]) -> Option<&'b [u8]>
     ensures { maybe (λ x. x.now) result ≡ find (entries_in (used_of store.now) vars.now) name.now }
 {
-    match place_of(vars, name) {
-        Some(i) => Some(store.text(vars[i].value)),
-        None => None,
-    }
+    vars.iter()
+        .find(|v| v.name == name)
+        .map(|v| store.text(v.value))
 }
 
 impl<'b> Names<'b> {
@@ -28,16 +27,18 @@ impl<'b> Names<'b> {
     pub fn look(self, name: &[u8]) -> &'b [u8]
         ensures { result.now ≡ look (scope_of self.entry) name.now }
     {
-        if let Some(t) = find(self.store, self.special, name) {
-            return t;
-        }
-        if let Some(t) = find(self.store, self.block, name) {
-            return t;
-        }
-        if let Some(t) = find(self.store, self.file, name) {
-            return t;
-        }
-        b""
+        let Lists {
+            special,
+            block,
+            file,
+        } = self.lists;
+        special
+            .iter()
+            .chain(block)
+            .chain(file)
+            .find(|v| v.name == name)
+            .map(|v| self.store.text(v.value))
+            .unwrap_or_default()
     }
 }
 
@@ -48,15 +49,15 @@ fn piece_at<'b>(c: Names<'b>, s: &'b [u8]) -> (&'b [u8], &'b [u8])
 {
     match s {
         [] => (b"", s),
-        [b'\n', rest @ ..] => (b"", past(rest, spaces(rest))),
-        [b' ' | b':' | b'$', rest @ ..] => (&s[0..1], rest),
+        [b'\n', rest @ ..] => (b"", split_run(rest, |b| b == b' ').1),
+        [b' ' | b':' | b'$', rest @ ..] => (&s[..1], rest),
         [b'{', rest @ ..] => {
-            let n = name_len(rest);
-            (c.look(&rest[0..n]), past(past(rest, n), 1))
+            let (name, after) = split_run(rest, is_name);
+            (c.look(name), past(after, 1))
         }
         _ => {
-            let n = simple_len(s);
-            (c.look(&s[0..n]), past(s, n))
+            let (name, after) = split_run(s, is_simple);
+            (c.look(name), after)
         }
     }
 }
@@ -66,11 +67,11 @@ fn part_at<'b>(c: Names<'b>, s: &'b [u8]) -> (&'b [u8], &'b [u8])
     ensures cut { expand_from (look (scope_of c.entry)) 0 s.now ≡ result.0.now ++ expand_from (look (scope_of c.entry)) 0 result.1.now }
     ensures less { 0 < length s.now → length result.1.now < length s.now }
 {
-    let n = plain_len(s);
-    if n > 0 {
-        return (&s[0..n], past(s, n));
+    let (plain, rest) = split_run(s, |b| b != b'$');
+    if plain.is_empty() {
+        return piece_at(c, past(rest, 1));
     }
-    piece_at(c, past(s, 1))
+    (plain, rest)
 }
 
 // Appends a text, if that leaves `out` within the limit.
@@ -95,8 +96,9 @@ pub(crate) fn expand_into<'b>(
     requires { vec_len out.old ≤ limit }
     ensures { Fills result limit (out.old.items ++ expand_from (look (scope_of c.entry)) 0 value.now) out.new.items }
 {
+    // Each turn takes one part, whose length its own bytes decide: no iterator of the library steps so.
     let mut rest = value;
-    while rest.len() > 0 {
+    while !rest.is_empty() {
         let (text, after) = part_at(c, rest);
         append(out, limit, text)?;
         rest = after;

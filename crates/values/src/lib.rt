@@ -3,5 +3,6 @@
 
 pub mod expand;
 pub mod keep;
+pub mod limits;
 mod scan;
 pub mod scope;

@@ -1,16 +1,11 @@
-use Rattle.std.proofs.Common.{◌∙◌}
-use Rattle.std.proofs.lemmas.Slice.Eq.{slice_eq-Decides}
-use Rattle.store.proofs.Places.{place_more, place_here, place_end}
+use Rattle.std.proofs.Common.{◌∙◌, rules, tests}
+use Rattle.std.proofs.lemmas.Iterator.{YieldsList-from_slice}
+use Rattle.std.proofs.lemmas.Iterator.Search.{position_from_yields_List}
+use Rattle.std.proofs.lemmas.Iterator.Adapters.{position_from-zero}
+use Rattle.std.specs.Str.{bytes_eq}
 use Rattle.store.proofs.held.place_of.Goals as goal
-use Rattle.std.proofs.lemmas.Bool.Decides.{Decides-eqb}
 
-pub loop-i-preserved : goal.loop-i-preserved
-loop-i-preserved c =
-    place_more c.args.vars.now c.args.name.now c.loop-i.i _ _ c.loop-i-test.true c.if-eq.false (slice_eq-Decides Decides-eqb _ _ _ c.eq.ensures) ∙ c.loop-i.invariant
-
-pub returns-then-eq : goal.returns-then-eq
-returns-then-eq c =
-    record { is = place_here c.args.vars.now c.args.name.now c.loop-i.i _ _ c.loop-i-test.true c.if-eq.true (slice_eq-Decides Decides-eqb _ _ _ c.eq.ensures) ∙ c.loop-i.invariant; below = c.loop-i-test.true }
-
-pub returns : goal.returns
-returns c = record { is = place_end c.args.vars.now c.args.name.now c.loop-i.i c.loop-i-test.false ∙ c.loop-i.invariant; below = tt }
+pub returns-clause-is : goal.returns-clause-is
+returns-clause-is c =
+    position_from_yields_List (λ v. bytes_eq v.name.now c.args.name.now) _ _ _ c.position.ensures.ran (YieldsList-from_slice c.args.vars.now cc) (λ x b q k. search (rules, tests))
+    ∙ position_from-zero (λ v. bytes_eq v.name.now c.args.name.now) c.args.vars.now

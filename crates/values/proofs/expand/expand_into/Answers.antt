@@ -1,4 +1,5 @@
 use Rattle.std.proofs.Common.{length, ap, arith}
+use Rattle.std.proofs.lemmas.Bool.Decides.{nat_tests}
 use Rattle.std.proofs.lemmas.Result.{err_from_is_err_and}
 use Rattle.values.specs.Expand.{look}
 use Rattle.values.specs.Scopes.{scope_of}
@@ -6,7 +7,7 @@ use Rattle.values.proofs.Pieces.{step, broken, finished}
 use Rattle.values.proofs.expand.expand_into.Goals as goal
 
 pub loop-rest-smaller : goal.loop-rest-smaller
-loop-rest-smaller c = c.part_at.ensures.less c.loop-rest-test.true
+loop-rest-smaller c = c.part_at.ensures.less (grind (arith, nat_tests))
 
 pub loop-rest-preserved : goal.loop-rest-preserved
 loop-rest-preserved c =
@@ -19,4 +20,4 @@ returns-in_err-append c =
     rw (p.1, p.2) (broken _ _ _ _ _ c.loop-rest.invariant.0 c.part_at.ensures.cut _ _ c.in_err-append.ensures)
 
 pub returns : goal.returns
-returns c = finished (look (scope_of c.args.c)) _ _ c.loop-rest.rest.now _ _ c.loop-rest.invariant.0 (omega arith) c.loop-rest.out.ok.0 c.loop-rest.invariant.1
+returns c = finished (look (scope_of c.args.c)) _ _ c.loop-rest.rest.now _ _ c.loop-rest.invariant.0 (grind (arith, nat_tests)) c.loop-rest.out.ok.0 c.loop-rest.invariant.1

@@ -1,10 +1,11 @@
-use Rattle.std.proofs.Common.{Some, sym, ap, ◌∙◌}
-use Rattle.values.proofs.Lookups.{first_at, first_find, none_find}
+use Rattle.std.proofs.Common.{rules, tests}
+use Rattle.std.proofs.lemmas.Iterator.{YieldsList-from_slice}
+use Rattle.std.proofs.lemmas.Iterator.Search.{find_from_yields_List}
+use Rattle.std.specs.Str.{bytes_eq}
+use Rattle.values.proofs.Lookups.{found_text}
 use Rattle.values.proofs.expand.find.Goals as goal
 
-pub returns-in-Some : goal.returns-in-Some
-returns-in-Some c =
-    ap Some c.text.ensures ∙ sym (first_find _ c.args.vars.now c.args.name.now c.in-Some.i _ (first_at c.args.vars.now c.args.name.now _ c.in-Some.ensures.is))
-
-pub returns-in-None : goal.returns-in-None
-returns-in-None c = sym (none_find _ c.args.vars.now c.args.name.now 0 (sym c.in-None.ensures.is))
+pub returns : goal.returns
+returns c =
+    found_text _ c.args.vars.now c.args.name.now _ (λ x t p. search rules) c.find.result c.map.result c.map.ensures.cases
+    (find_from_yields_List (λ v. bytes_eq v.name.now c.args.name.now) _ _ _ c.find.ensures.ran (YieldsList-from_slice c.args.vars.now cc) (λ x b q k. search (rules, tests)))

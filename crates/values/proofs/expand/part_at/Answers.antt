@@ -1,24 +1,33 @@
-use Rattle.std.proofs.Common.{◌≡◌, length, ap, arith, rules}
-use native.Mathlib.Nat.{sub-zero}
+use Rattle.std.proofs.Common.{◌≡◌, ◌<◌, length, drop, ap, sym, ◌∙◌, arith, rules, tests}
 use Rattle.std.proofs.lemmas.List.{length-drop}
-use Rattle.values.specs.Expand.{look, piece, front, plain}
+use Rattle.std.proofs.lemmas.Bool.Decides.{nat_tests}
+use Rattle.values.specs.Expand.{look, piece, plain}
 use Rattle.values.specs.Scopes.{scope_of}
-use Rattle.values.proofs.Runs.{front_within}
+use Rattle.values.proofs.Runs.{no_run, some_run}
 use Rattle.values.proofs.Pieces.{plain_run, at_dollar}
 use Rattle.values.proofs.expand.part_at.Goals as goal
 
-pub slice_bounds-result-end : goal.slice_bounds-result-end
-slice_bounds-result-end c = search (rules, front_within)
-
-pub returns-then-n-gt0 : goal.returns-then-n-gt0
-returns-then-n-gt0 c =
-    record { cut = rw (c.past.ensures, sub-zero, c.plain_len-n.ensures) (plain_run (look (scope_of c.args.c)) c.args.s.now); less = λ h. omega (arith, ap length c.past.ensures, length-drop c.plain_len-n.result c.args.s.now) }
+pub returns-then-is_empty : goal.returns-then-is_empty
+returns-then-is_empty c =
+    let s = c.args.s.now in
+    let told = c.piece_at.ensures in
+    let run = c.split_run.ensures.run plain (λ b r h. search (rules, tests)) in
+    let rest = c.split_run.ensures.rest plain (λ b r h. search (rules, tests)) in
+    let e : length c.split_run.result.0.now ≡ 0 = grind (arith, nat_tests) in
+    let none = no_run plain s (sym (ap length run) ∙ e) in
+    let after = c.past.ensures ∙ ap (drop 1) (rest ∙ ap (λ n. drop n s) none) in
+    record {
+      cut = at_dollar (look (scope_of c.args.c)) s c.past.result.now _ _ none after told.text told.rest;
+      less = λ h. omega (arith, ap length told.rest, length-drop (piece (look (scope_of c.args.c)) c.past.result.now).taken c.past.result.now, ap length after, length-drop 1 s);
+    }
 
 pub returns : goal.returns
 returns c =
-    let told = c.piece_at.ensures in
-    let none : front plain c.args.s.now ≡ 0 = omega (arith, c.plain_len-n.ensures) in
+    let s = c.args.s.now in
+    let run = c.split_run.ensures.run plain (λ b r h. search (rules, tests)) in
+    let rest = c.split_run.ensures.rest plain (λ b r h. search (rules, tests)) in
+    let e : 0 < length c.split_run.result.0.now = grind (arith, nat_tests) in
     record {
-      cut = at_dollar (look (scope_of c.args.c)) c.args.s.now c.past-2.result.now _ _ none c.past-2.ensures told.text told.rest;
-      less = λ h. omega (arith, ap length told.rest, length-drop (piece (look (scope_of c.args.c)) c.past-2.result.now).taken c.past-2.result.now, ap length c.past-2.ensures, length-drop 1 c.args.s.now);
+      cut = rw (run, rest) (plain_run (look (scope_of c.args.c)) s);
+      less = λ _. rw rest (some_run plain s (rw run at e));
     }
