@@ -1,4 +1,4 @@
--- One step more of a loop that follows eachTry.
+-- One step more of a loop that follows each_try.
 use Rattle.std.proofs.Common.{◌≡◌, ℕ, ◌+◌, ◌<◌, ◌≤◌, List, map, length, get_or, drop, sym, ap, ◌∙◌}
 use Rattle.std.proofs.lemmas.List.{drop_more, drop_all}
 use Rattle.store.specs.declared.wrong.Stop.{Stop}

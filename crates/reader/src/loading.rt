@@ -8,9 +8,11 @@ ghost use Rattle.reader.specs.Load.{finish, load_of};
 ghost use Rattle.reader.specs.Told.{Tells};
 ghost use Rattle.reader.specs.Loads.{pieces_of, whole_of, Loads, Meant, Round};
 
-use crate::edges::{ask_all, value_all};
+use crate::edge_values::Valuing;
+use crate::edges::each_edge;
 use crate::fault::{Fault, Refusal};
 use crate::pieces::Pieces;
+use crate::questions::Asking;
 use crate::reading::read;
 use draft::Draft;
 use graph::{Graph, Ranking, order};
@@ -22,30 +24,20 @@ fn complete(heap: Global, draft: Draft) -> Result<Pieces, Refusal>
     ensures { Tells pieces_of result (finish (state_of draft.entry)) }
 {
     let mut d = draft;
-    match order(heap, d.files.as_slice(), d.edges.as_slice())? {
+    match order(heap, &d.known.files, &d.edges)? {
         Ranking::Circle(c) => {
             let place = d.edges[c].place;
             Err(Refusal::Faulty(Fault::Meaning(Wrong::Circle, place)))
         }
         Ranking::Ranks(ranks) => {
-            value_all(heap, &mut d)?;
-            ask_all(heap, &mut d)?;
-            let Draft {
-                texts,
-                rules,
-                pools,
-                files,
-                edges,
-                chosen,
-            } = d;
-            drop(rules);
-            drop(chosen);
+            each_edge::<Valuing>(&mut d)?;
+            each_edge::<Asking>(&mut d)?;
             Ok(Pieces {
-                files,
-                edges,
-                pools,
+                files: d.known.files,
+                edges: d.edges,
+                pools: d.pools,
                 ranks,
-                store: texts.into_store(),
+                store: d.known.texts.into_store(),
             })
         }
     }
