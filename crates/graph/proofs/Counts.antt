@@ -1,7 +1,11 @@
 -- The least number that passes, and how many pass.
-use Rattle.std.proofs.Common.{◌≡◌, ℕ, zero, suc, ◌+◌, ◌<◌, ◌≤◌, Bool, true, false, cond, Some, None, sym, refl, ap, ◌∙◌, ⊎_elim, add-one, arith}
+use Rattle.std.proofs.Common.{◌≡◌, ℕ, zero, suc, ◌+◌, ◌<◌, ◌≤◌, Bool, true, false, cond, List, [], ◌∷◌, length, get_or, Some, None, sym, refl, ap, ◌∙◌, ⊎_elim, add-zero, zero-add, arith}
 use Rattle.std.proofs.lemmas.Bool.{cases_lt, cases_Bool, cond-true, cond-false}
+use Rattle.std.proofs.lemmas.Iterator.Adapters.{position_from-zero}
+use Rattle.std.proofs.lemmas.List.Recursion.{is_count_by}
+use Rattle.std.specs.List.{position, position_from}
 use Rattle.graph.specs.Circle.{least, count_of}
+use Rattle.graph.specs.Rows.{bit, set_bits}
 
 -- c is the least of the n numbers from i on that passes
 pub record Least (p : ℕ → Bool) (i n c : ℕ) : Type 0 where
@@ -47,23 +51,6 @@ module _ (p : ℕ → Bool) where
       let r = least_none (i + 1) n (sym (cond-false (p i) (Some i) (least p (i + 1) n) f) ∙ e) in
       λ d h l. ⊎_elim (λ lt. r d (omega arith) (omega arith)) (λ le. let same : d ≡ i = omega arith in ap p same ∙ f) (cases_lt i d))
       (cases_Bool (p i))
-
-  pub least_some : (i n c : ℕ) → Least p i n c → Some c ≡ least p i n
-  least_some i zero c r = let a = r.from in let b = r.within in absurd (omega arith)
-  least_some i (suc n) c r =
-      let a = r.from in
-      let b = r.within in
-      ⊎_elim
-      (λ lt.
-      least_some (i + 1) n c (record { from = omega arith; within = omega arith; passes = r.passes; first = λ d h l. r.first d (omega arith) l })
-      ∙ sym (cond-false (p i) (Some i) (least p (i + 1) n) (r.first i (omega arith) lt)))
-      (λ le. let same : c ≡ i = omega arith in ap Some same ∙ sym (cond-true (p i) (Some i) (least p (i + 1) n) (ap p (sym same) ∙ r.passes)))
-      (cases_lt i c)
-
-  pub none_least : (i n : ℕ) → NoneOf p i n → None ≡ least p i n
-  none_least i zero h = refl
-  none_least i (suc n) h =
-      none_least (i + 1) n (λ d a b. h d (omega arith) (omega arith)) ∙ sym (cond-false (p i) (Some i) (least p (i + 1) n) (h i (omega arith) (omega arith)))
 
   pub count_le : (n : ℕ) → count_of p n ≤ n
   count_le zero = omega arith
@@ -119,8 +106,20 @@ count_less p q (suc n) j h l a b = ⊎_elim
 pub count_below : (p : ℕ → Bool) (n j : ℕ) → j < n → p j ≡ false → count_of p n < n
 count_below p n j l f = omega (arith, count_less (λ x. true) p n j (λ d m t. refl) l refl f, count_le (λ x. true) n)
 
-pub count_yes : (p : ℕ → Bool) (i m : ℕ) → m ≡ count_of p i → p i ≡ true → m + 1 ≡ count_of p (i + 1)
-count_yes p i m e t = omega (arith, ap (count_of p) (add-one i), cond-true (p i) (suc (count_of p i)) (count_of p i) t)
+-- the first place where a list's element passes is the least number that does
+position_from_least : {X : Type 0} (q : X → Bool) (xs : List X) (p : ℕ → Bool) (i : ℕ) → ((k : ℕ) (x : X) → k < length xs → x ≡ get_or xs k x → p (i + k) ≡ q x) → position_from q i xs ≡ least p i (length xs)
+position_from_least q [] p i h = refl
+position_from_least q (x ∷ xs) p i h =
+    ap (λ b. cond b (Some i) (position_from q (i + 1) xs)) (sym (ap p (sym (add-zero i)) ∙ h 0 x (omega arith) refl))
+    ∙ ap (cond (p i) (Some i)) (position_from_least q xs p (i + 1) (λ k y l e. let same : i + 1 + k ≡ i + suc k = omega arith in ap p same ∙ h (suc k) y (omega arith) e))
 
-pub count_no : (p : ℕ → Bool) (i m : ℕ) → m ≡ count_of p i → p i ≡ false → m ≡ count_of p (i + 1)
-count_no p i m e f = omega (arith, ap (count_of p) (add-one i), cond-false (p i) (suc (count_of p i)) (count_of p i) f)
+pub position_least : {X : Type 0} (q : X → Bool) (xs : List X) (p : ℕ → Bool) → ((k : ℕ) (x : X) → k < length xs → x ≡ get_or xs k x → p k ≡ q x) → position q xs ≡ least p 0 (length xs)
+position_least q xs p h = position_from-zero q xs ∙ position_from_least q xs p 0 (λ k x l e. ap p (zero-add k) ∙ h k x l e)
+
+-- the count of bits by number is the count of those that are set
+count_first : (p : ℕ → Bool) (n : ℕ) → count_of p (suc n) ≡ cond (p 0) (1 + count_of (λ i. p (suc i)) n) (count_of (λ i. p (suc i)) n)
+count_first p zero = refl
+count_first p (suc n) = grind (arith, count_first p n)
+
+pub bits_count : (row : List Bool) → count_of (bit row) (length row) ≡ set_bits row
+bits_count row = is_count_by (λ row. count_of (bit row) (length row)) (λ b. b) refl (λ x xs. count_first (bit (x ∷ xs)) (length xs)) row

@@ -1,18 +1,14 @@
 -- The law comes out of the ghost field, and the empty graph keeps it.
-use Rattle.std.proofs.Common.{◌≡◌, ℕ, ◌<◌, List, [], length, Some, None, Option, sym, refl, ◌∙◌, subst, arith}
+use Rattle.std.proofs.Common.{◌≡◌, ℕ, ◌<◌, List, length, Some, None, Option, sym, ◌∙◌, arith}
 use mathlib.Core.Logic.{∥∥₁_elim}
 use denote.Struct.Props.{props}
 use Rattle.std.specs.Str.{bytes_eq}
 use Rattle.std.proofs.lemmas.Slice.Eq.{bytes_eq-Decides}
 use Rattle.std.proofs.lemmas.Bool.{both_ways}
-use Rattle.graph.specs.declared.kinds.File.{File}
-use Rattle.graph.specs.declared.kinds.Edge.{Edge}
-use Rattle.graph.specs.declared.kinds.Pool.{Pool}
 use Rattle.graph.specs.declared.whole.Graph.{Graph}
-use Rattle.graph.specs.Data.{EdgeData, GraphData, data_of, path_at}
+use Rattle.graph.specs.Data.{EdgeData, GraphData, path_at}
 use Rattle.graph.specs.Graphs.{graph_of, file_named, Named}
 use Rattle.graph.specs.Lawful.{Few, few_prop, FileLaw, file_prop, PoolLaw, pool_prop, ListLaw, list_prop, EdgeLaw, edge_prop, RankLaw, rank_prop, Lawful, lawful_prop}
-use Rattle.graph.proofs.Ranks.{needs_low}
 use Rattle.graph.proofs.Counts.{least_is, least_none}
 
 few_is : (g : GraphData) → IsProp (Few g)
@@ -44,21 +40,6 @@ taken g t =
 -- the law of a graph
 pub held : (g : Graph) → Lawful (graph_of g)
 held g = taken (graph_of g) g.lawful
-
--- a graph with nothing in it is lawful
-pub empty_lawful : Lawful (data_of [] [] [] [])
-empty_lawful = record {
-  few = record { files = omega arith; edges = omega arith; pools = omega arith };
-  file = λ f h. absurd (omega arith);
-  same = λ a b h. absurd (omega arith);
-  pool = λ p h. absurd (omega arith);
-  edge = λ e h. absurd (omega arith);
-  rank = record { long = refl; low = λ e h. absurd (omega arith); falls = λ e d h. let low = needs_low [] [] e d h in absurd (omega arith) };
-}
-
-pub empty_held : (fs : List File) (es : List Edge) (ps : List Pool) (rs : List ℕ) → fs ≡ [] → es ≡ [] → ps ≡ [] → rs ≡ [] → Lawful (data_of fs es ps rs)
-empty_held fs es ps rs a b c d =
-    subst (λ x. Lawful (data_of x es ps rs)) (sym a) (subst (λ x. Lawful (data_of [] x ps rs)) (sym b) (subst (λ x. Lawful (data_of [] [] x rs)) (sym c) (subst (λ x. Lawful (data_of [] [] [] x)) (sym d) empty_lawful)))
 
 -- a file that is found is the only one with its path
 pub named_is : (g : GraphData) → Lawful g → (p : List ℕ) (r : Option ℕ) → r ≡ file_named g.files p → Named g.files p r

@@ -1,11 +1,11 @@
 -- What the definitions of circle and rank mean: the words of the law.
-use Rattle.std.proofs.Common.{◌≡◌, ℕ, ◌<◌, true, false, ltb, List, length, get_or, None, Ok, Err, vec_items, Result, sym, ap, ◌∙◌, ⊎_elim, zero-add, arith}
-use Rattle.std.specs.declared.alloc.AllocError.{AllocError}
+use Rattle.std.proofs.Common.{◌≡◌, ℕ, ◌<◌, true, false, ltb, List, length, get_or, None, Ok, Err, vec_items, Result, Vec, sym, ap, ◌∙◌, ⊎_elim, zero-add, arith}
+use Rattle.std.specs.declared.alloc.Global.{Global}
 use Rattle.std.proofs.lemmas.List.{get_or_past}
 use Rattle.std.proofs.lemmas.Bool.{false≢true, both_ways, and_parts, ltb-true, cases_lt}
 use Rattle.std.proofs.lemmas.List.FromFn.{length-map-range_with_len, get_or-map-range_with_len}
-use Rattle.graph.specs.declared.circle.Ranking.{Ranking}
-use Rattle.graph.specs.declared.circle.Ranking.TheVariants.{Ranks, Circle}
+use Rattle.graph.specs.declared.circle.Unranked.{Unranked}
+use Rattle.graph.specs.declared.circle.Unranked.TheVariants.{Circle, Memory}
 use Rattle.graph.specs.Data.{FileData, EdgeData, no_edge, edge_at}
 use Rattle.graph.specs.Circle.{makes_one, inputs_of, needs, reaches, circle_of, rank_of, ranks_of, OnCircle, Lowest, Ranked, Says, Tells}
 use Rattle.graph.proofs.Walks.{via_walk, via_step, via_join, walk_via, walk_low}
@@ -58,7 +58,7 @@ module _ (fs : List FileData) (es : List EdgeData) where
       falls = λ e d h. omega (arith, rank_at d (needs_low e d h), rank_at e (needs_from e d h), rank_falls e d h);
     }
 
-  pub says_tells : (r : Result Ranking AllocError) → Says fs es r → Tells fs es r
-  says_tells (Ok (Ranks v)) h = ranked_is (vec_items v) h.0 h.1
-  says_tells (Ok (Circle c)) h = lowest_is c (least_is (λ e. reaches fs es e e) 0 (length es) c h)
-  says_tells (Err e) h = tt
+  pub says_tells : (r : Result (Vec ℕ Global) Unranked) → Says fs es r → Tells fs es r
+  says_tells (Ok v) h = ranked_is (vec_items v) h.0 h.1
+  says_tells (Err (Circle c)) h = lowest_is c (least_is (λ e. reaches fs es e e) 0 (length es) c h)
+  says_tells (Err Memory) h = tt

@@ -1,10 +1,10 @@
 -- Which edge needs which, circles, and ranks.
-use Rattle.std.specs.Prelude.{◌≡◌, ℕ, zero, suc, ◌+◌, ◌<◌, Bool, true, false, cond, ◌&&◌, ◌||◌, List, [], ◌∷◌, ◌++◌, map, length, Some, None, Ok, Err, vec_items, Option, Result, ◌==◌, nat_lt, slice_index}
+use Rattle.std.specs.Prelude.{◌≡◌, ℕ, zero, suc, ◌+◌, ◌<◌, Bool, true, false, cond, ◌&&◌, ◌||◌, List, [], ◌∷◌, ◌++◌, map, length, Some, None, Ok, Err, vec_items, Option, Result, Vec, ◌==◌, nat_lt, slice_index}
 use Rattle.std.specs.List.{range_with_len}
-use Rattle.std.specs.declared.alloc.AllocError.{AllocError}
+use Rattle.std.specs.declared.alloc.Global.{Global}
 use Rattle.graph.specs.Data.{FileData, EdgeData, maker_at, edge_at}
-use Rattle.graph.specs.declared.circle.Ranking.{Ranking}
-use Rattle.graph.specs.declared.circle.Ranking.TheVariants.{Ranks, Circle}
+use Rattle.graph.specs.declared.circle.Unranked.{Unranked}
+use Rattle.graph.specs.declared.circle.Unranked.TheVariants.{Circle, Memory}
 
 -- the maker is the edge d
 abbrev pub is_maker : ℕ → Option ℕ → Bool
@@ -78,13 +78,13 @@ pub record Ranked (fs : List FileData) (es : List EdgeData) (rs : List ℕ) : Ty
   pub falls : (e d : ℕ) → needs fs es e d ≡ true → slice_index rs d < slice_index rs e
 
 -- an answer is the one that the definitions give
-abbrev pub Says : List FileData → List EdgeData → Result Ranking AllocError → Type 0
-Says fs es (Ok (Ranks v)) = (circle_of fs es ≡ None) × (vec_items v ≡ ranks_of fs es)
-Says fs es (Ok (Circle c)) = circle_of fs es ≡ Some c
-Says fs es (Err e) = Unit {0}
+abbrev pub Says : List FileData → List EdgeData → Result (Vec ℕ Global) Unranked → Type 0
+Says fs es (Ok v) = (circle_of fs es ≡ None) × (vec_items v ≡ ranks_of fs es)
+Says fs es (Err (Circle c)) = circle_of fs es ≡ Some c
+Says fs es (Err Memory) = Unit {0}
 
 -- what an answer tells of circles and ranks
-abbrev pub Tells : List FileData → List EdgeData → Result Ranking AllocError → Type 0
-Tells fs es (Ok (Ranks v)) = Ranked fs es (vec_items v)
-Tells fs es (Ok (Circle c)) = Lowest fs es c
-Tells fs es (Err e) = Unit {0}
+abbrev pub Tells : List FileData → List EdgeData → Result (Vec ℕ Global) Unranked → Type 0
+Tells fs es (Ok v) = Ranked fs es (vec_items v)
+Tells fs es (Err (Circle c)) = Lowest fs es c
+Tells fs es (Err Memory) = Unit {0}

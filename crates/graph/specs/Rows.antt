@@ -1,6 +1,5 @@
 -- Tables of bits, which the search for circles works on.
-use Rattle.std.specs.Prelude.{◌≡◌, ℕ, ◌<◌, Bool, false, ◌&&◌, ◌||◌, List, [], length, slice_index_or}
-use Rattle.graph.specs.Circle.{count_of}
+use Rattle.std.specs.Prelude.{◌≡◌, ℕ, ◌<◌, Bool, false, ◌&&◌, ◌||◌, List, [], length, slice_index_or, count_by}
 
 -- the bit at j
 abbrev pub bit : List Bool → ℕ → Bool
@@ -12,7 +11,7 @@ row_at rows i = slice_index_or rows i []
 
 -- how many bits are set
 abbrev pub set_bits : List Bool → ℕ
-set_bits row = count_of (bit row) (length row)
+set_bits row = count_by (λ b. b) row
 
 -- n bits, as p says
 pub record Row (n : ℕ) (p : ℕ → Bool) (row : List Bool) : Type 0 where

@@ -1,4 +1,5 @@
-// What a graph is made of: files, pools and edges, which name one another by number.
+// What a graph is made of: files, pools and edges. They name one another by number: a manifest's rules number them so, and the
+// numbers are printed.
 use cursor::Place;
 
 #[derive(Drop)]

@@ -6,6 +6,6 @@ pub mod kinds;
 pub mod methods;
 pub mod whole;
 
-pub use circle::{Ranking, order};
+pub use circle::{Unranked, order};
 pub use kinds::{Edge, File, Pool};
 pub use whole::Graph;

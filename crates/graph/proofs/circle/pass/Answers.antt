@@ -1,18 +1,21 @@
-use Rattle.std.proofs.Common.{vec_items, arith}
-use Rattle.graph.proofs.Held.{refill, copied, other_wide, square_held, passed_held}
+use Rattle.std.proofs.Common.{length, vec_items, get_or, arith}
+use Rattle.graph.proofs.Held.{row_wide, passing_wide, passing_set, row_written}
 use Rattle.graph.proofs.circle.pass.Goals as goal
 
-pub pass_rows-requires : goal.pass_rows-requires
-pass_rows-requires c =
-    let n = c.args.rows.now.len in
-    let rows = vec_items c.args.rows.now in
-    let is = copied rows c.args.k c.index.result.now _ _ _ (omega (arith, c.args.rows.now.ok.0, c.requires.1)) c.index.ensures c.as_slice.ensures.value c.in_ok-other.ensures.items c.as_slice-2.ensures.value in (
-      square_held n c.args.k rows _ _ c.as_mut_slice.ensures.value is c.requires.0 c.requires.1,
-      (let w = other_wide n c.args.k rows _ _ c.as_mut_slice.ensures.value is c.requires.0 c.requires.1 in omega (arith, w, c.requires.1)),
+
+pub pass_row-requires : goal.pass_row-requires
+pass_row-requires c =
+    let wide = passing_wide _ _ _ _ c.loop-row.rows c.loop-row.row-index c.row-item.result c.loop-row.invariant (omega arith) c.row-item.is c.requires.0 in
+    let long = row_wide c.args.rows.now c.args.k c.index-rows-k.result c.requires.1 c.requires.0 in
+    let same = c.in_ok-other.ensures.cases.1 in (
+      omega (arith, wide, long, same, c.deref_mut.ensures.len, c.deref.ensures.len),
+      omega (arith, long, same, c.deref.ensures.len, c.requires.1),
     )
 
-pub returns : goal.returns
-returns c =
-    let is = copied (vec_items c.args.rows.now) c.args.k c.index.result.now _ _ _ (omega (arith, c.args.rows.now.ok.0, c.requires.1)) c.index.ensures c.as_slice.ensures.value c.in_ok-other.ensures.items c.as_slice-2.ensures.value in
-    passed_held c.args.rows.now.len c.args.k (vec_items c.args.rows.now) _ _ c.as_mut_slice.ensures.value is c.requires.0 c.requires.1
-    c.pass_rows.new.rows _ (refill _ _ _ (omega arith)) c.pass_rows.ensures
+pub loop-row-preserved : goal.loop-row-preserved
+loop-row-preserved c =
+    let long = row_wide c.args.rows.now c.args.k c.index-rows-k.result c.requires.1 c.requires.0 in
+    let same = c.in_ok-other.ensures.cases.1 in
+    passing_set _ _ _ _ c.loop-row.rows c.loop-row.row-index c.row-item.result c.loop-row.invariant (omega arith) c.row-item.is _
+    (row_written (length c.args.rows.now) c.args.k (get_or c.loop-row.rows c.loop-row.row-index c.row-item.result) (vec_items c.in_ok-other.other) _ _ c.pass_row.new.row
+    c.deref_mut.ensures.value c.deref.ensures.value (omega (arith, long, same, c.deref.ensures.len)) (omega (arith, c.deref_mut.ensures.len)) c.pass_row.ensures)
