@@ -16,6 +16,10 @@ use Rattle.reader.specs.Values.{paths_at, pool_found, pool_named, given, value_f
 use Rattle.reader.specs.Given.{ValuesData, values_for}
 
 -- a pool that a text names which is not empty
+pub named_is : (ps : List PoolData) (n : List ℕ) → (length n == 0) ≡ false → pool_named ps n ≡ pool_found (pool_at ps n)
+named_is ps [] e = let z : ◌≡◌ {A = Bool} true false = e in cc
+named_is ps (x ∷ n) e = refl
+
 pub named_found : (ps : List PoolData) (n : List ℕ) (b : Bool) → b ≡ (length n == 0) → b ≡ false → (o : Option ℕ) → o ≡ pool_at ps n → pool_found o ≡ pool_named ps n
 named_found ps [] b e f o h = let z : ◌≡◌ {A = Bool} true false = sym e ∙ f in absurd (cc)
 named_found ps (x ∷ n) b e f o h = ap pool_found h

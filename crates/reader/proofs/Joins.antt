@@ -52,9 +52,14 @@ pub spaced_none : (fs : List FileData) (ns : List ℕ) → length ns ≡ 0 → s
 spaced_none fs [] h = refl
 spaced_none fs (n ∷ ns) h = absurd (omega arith)
 
-pub spaced_first : (fs : List FileData) (ns : List ℕ) → 0 < length ns → spaced (paths_at fs ns) ≡ path_at fs (get_or ns 0 0) ++ flat_map (λ q. 32 ∷ q) (paths_at fs (take (length ns - 1) (drop 1 ns)))
+-- each path with a space before it, and nothing after it
+behind_map : (ps : List (List ℕ)) → flat_map (λ q. 32 ∷ q) ps ≡ flat_map (λ q. 32 ∷ (q ++ [])) ps
+behind_map [] = refl
+behind_map (p ∷ ps) = ap (λ x. 32 ∷ (x ++ flat_map (λ q. 32 ∷ q) ps)) (sym (append-nil p)) ∙ ap (λ x. 32 ∷ ((p ++ []) ++ x)) (behind_map ps)
+
+pub spaced_first : (fs : List FileData) (ns : List ℕ) → 0 < length ns → spaced (paths_at fs ns) ≡ path_at fs (get_or ns 0 0) ++ flat_map (λ q. 32 ∷ (q ++ [])) (paths_at fs (take (length ns - 1) (drop 1 ns)))
 spaced_first fs [] h = absurd (omega arith)
-spaced_first fs (n ∷ ns) h = rw (take_rest (n ∷ ns) 1)
+spaced_first fs (n ∷ ns) h = rw (take_rest (n ∷ ns) 1) (ap (λ x. path_at fs n ++ x) (behind_map (paths_at fs ns)))
 
 -- each path with a byte 0 after it, put by a map
 ended_map : (ps : List (List ℕ)) → flat_map (λ p. p ++ 0 ∷ []) ps ≡ ended ps

@@ -15,7 +15,8 @@ use crate::pieces::Pieces;
 use crate::questions::Asking;
 use crate::reading::read;
 use draft::Draft;
-use graph::{Graph, Ranking, order};
+use graph::{Graph, Unranked, order};
+use lists::Known;
 use std::alloc::Global;
 use store::{Store, Wrong};
 
@@ -24,23 +25,25 @@ fn complete(heap: Global, draft: Draft) -> Result<Pieces, Refusal>
     ensures { Tells pieces_of result (finish (state_of draft.entry)) }
 {
     let mut d = draft;
-    match order(heap, &d.known.files, &d.edges)? {
-        Ranking::Circle(c) => {
+    // a circle gets the place of its edge, so that no `From` can stand for this
+    let ranks = match order(heap, &d.known.files, &d.edges) {
+        Ok(ranks) => ranks,
+        Err(Unranked::Circle(c)) => {
             let place = d.edges[c].place;
-            Err(Refusal::Faulty(Fault::Meaning(Wrong::Circle, place)))
+            return Err(Refusal::Faulty(Fault::Meaning(Wrong::Circle, place)));
         }
-        Ranking::Ranks(ranks) => {
-            each_edge::<Valuing>(&mut d)?;
-            each_edge::<Asking>(&mut d)?;
-            Ok(Pieces {
-                files: d.known.files,
-                edges: d.edges,
-                pools: d.pools,
-                ranks,
-                store: d.known.texts.into_store(),
-            })
-        }
-    }
+        Err(Unranked::Memory) => return Err(Refusal::Memory),
+    };
+    each_edge::<Valuing>(&mut d)?;
+    each_edge::<Asking>(&mut d)?;
+    let Known { texts, files } = d.known;
+    Ok(Pieces {
+        files,
+        edges: d.edges,
+        pools: d.pools,
+        ranks,
+        store: texts.into_store(),
+    })
 }
 
 // The graph and the store of a text.
