@@ -17,38 +17,43 @@ use names::{last_value, place_of};
 use std::alloc::Global;
 use store::{Stop, Wrong};
 
-// The last line of an edge's rule that sets a name.
-fn rule_line<'a>(d: &Draft<'a>, e: usize, name: &[u8]) -> Option<&'a [u8]>
-    ensures { maybe (λ x. x.now) result ≡ last_of (rule_of (state_of d.now) e).lines name.now }
-{
-    let k = d.chosen.get(e).copied().unwrap_or(0);
-    d.rules
-        .get(k)
-        .and_then(|rule| last_value(&rule.lines, name))
+// An edge, with what `in` and `out` stand for in the values of its rule.
+#[derive(Drop)]
+struct Ruled<'d, 'a> {
+    draft: &'d Draft<'a>,
+    e: usize,
+    ins: Vec<u8>,
+    outs: Vec<u8>,
+    ghost ins_value: { ins.items ≡ in_text (state_of draft.now).files (edge_at (state_of draft.now).edges e) },
+    ghost outs_value: { outs.items ≡ out_text (state_of draft.now).files (edge_at (state_of draft.now).edges e) },
 }
 
-// A value of an edge: its block's own, or what its rule's line stands for, or nothing.
-fn value_for(
-    heap: Global,
-    d: &Draft,
-    e: usize,
-    name: &[u8],
-    ins: &[u8],
-    outs: &[u8],
-) -> Result<Vec<u8>, Stop>
-    requires ins_value { ins.now ≡ in_text (state_of d.now).files (edge_at (state_of d.now).edges e) }
-    requires outs_value { outs.now ≡ out_text (state_of d.now).files (edge_at (state_of d.now).edges e) }
-    ensures { Gives vec_items result (value_for (state_of d.now) e name.now) }
-{
-    let texts = &d.known.texts;
-    if let Some(own) = texts.block_value(e, name) {
-        return Ok(own.to_vec(heap)?);
+impl<'d, 'a> Ruled<'d, 'a> {
+    // The last line of the rule that sets a name.
+    fn line(&self, name: &[u8]) -> Option<&'a [u8]>
+        ensures { maybe (λ x. x.now) result ≡ last_of (rule_of (state_of self.now.draft.now) self.now.e).lines name.now }
+    {
+        let k = self.draft.chosen.get(self.e).copied().unwrap_or(0);
+        self.draft
+            .rules
+            .get(k)
+            .and_then(|rule| last_value(&rule.lines, name))
     }
-    let mut out = Vec::new(heap);
-    if let Some(v) = rule_line(d, e, name) {
-        texts.rule_value(e, ins, outs, v, &mut out)?;
+
+    // A value: the one of the edge's block, or what the rule's line stands for, or nothing.
+    fn value(&self, heap: Global, name: &[u8]) -> Result<Vec<u8>, Stop>
+        ensures { Gives vec_items result (value_for (state_of self.now.draft.now) self.now.e name.now) }
+    {
+        let texts = &self.draft.known.texts;
+        if let Some(own) = texts.block_value(self.e, name) {
+            return Ok(own.to_vec(heap)?);
+        }
+        let mut out = Vec::new(heap);
+        if let Some(v) = self.line(name) {
+            texts.rule_value(self.e, &self.ins, &self.outs, v, &mut out)?;
+        }
+        Ok(out)
     }
-    Ok(out)
 }
 
 // The pool that a text names; the empty text names none.
@@ -67,12 +72,16 @@ fn values_of(heap: Global, d: &Draft, e: usize) -> Result<Values, Stop>
     requires { e < length (state_of d.now).edges }
     ensures { Gives values_of result (values_for (state_of d.now) e) }
 {
-    let ins = in_text(heap, &d.known.files, &d.edges[e])?;
-    let outs = out_text(heap, &d.known.files, &d.edges[e])?;
-    let command = value_for(heap, d, e, b"command", &ins, &outs)?;
-    let description = value_for(heap, d, e, b"description", &ins, &outs)?;
-    let pool = value_for(heap, d, e, b"pool", &ins, &outs)?;
-    let restat = value_for(heap, d, e, b"restat", &ins, &outs)?;
+    let edge = Ruled {
+        draft: d,
+        e,
+        ins: in_text(heap, &d.known.files, &d.edges[e])?,
+        outs: out_text(heap, &d.known.files, &d.edges[e])?,
+    };
+    let command = edge.value(heap, b"command")?;
+    let description = edge.value(heap, b"description")?;
+    let pool = edge.value(heap, b"pool")?;
+    let restat = edge.value(heap, b"restat")?;
     let pool = pool_named(&d.pools, &pool)?;
     Ok(Values {
         command,
