@@ -11,16 +11,6 @@ use Rattle.graph.specs.Question.{ended}
 use Rattle.reader.specs.Values.{spaced, paths_at}
 use Rattle.reader.specs.Told.{Puts, Asks}
 
-pub path_past : (fs : List File) (f : ℕ) → length fs ≤ f → path_at (map file_of fs) f ≡ []
-path_past fs f h = ap (λ x. x.path) (get_or_past (map file_of fs) f no_file (simp length-map h))
-
-pub path_here : (fs : List File) (f : ℕ) (x : File) → f < length fs → x ≡ get_or fs f x → vec_items x.path ≡ path_at (map file_of fs) f
-path_here fs f x h e = ap (λ y. vec_items y.path) e ∙ sym (ap (λ y. y.path) (get_or-map file_of fs f x no_file h))
-
-pub extended : (r : Result (Unit {0}) AllocError) (a b : Vec ℕ Global) (more w : List ℕ) → vec_items b ≡ cond (is_ok r) (vec_items a ++ more) (vec_items a) → more ≡ w → Puts r a b w
-extended (Ok u) a b more w h e = h ∙ ap (λ x. vec_items a ++ x) e
-extended (Err x) a b more w h e = tt
-
 pub put_none : (a : List ℕ) (w : List ℕ) → w ≡ [] → a ≡ a ++ w
 put_none a w e = sym (append-nil a) ∙ ap (λ x. a ++ x) (sym e)
 

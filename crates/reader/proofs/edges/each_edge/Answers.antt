@@ -6,11 +6,6 @@ use Rattle.draft.specs.Drafts.{state_of}
 use Rattle.reader.proofs.Each.{each_more, each_stop, each_all}
 use Rattle.reader.proofs.edges.each_edge.Goals as goal
 
-pub step_at-requires : goal.step_at-requires
-step_at-requires g c =
-    let i = c.loop-e.invariant in
-    omega (arith, c.loop-e-test.true, c.len-e-end.ensures, c.args.d.now.edges.ok.0, length-map (vec_items c.args.d.now.edges) edge_of, i.long)
-
 pub returns-in_err-step_at : goal.returns-in_err-step_at
 returns-in_err-step_at g c =
     let p = err_from_is_err_and c.from_residual.result c.from_residual.ensures.1 in
@@ -29,9 +24,3 @@ loop-e-preserved g c =
       left = each_more g.S.Step.step n c.loop-e.e st _ c.loop-e.invariant.left (state_of c.step_at.new.d) l c.in_ok-step_at.ensures.says;
       long = c.in_ok-step_at.ensures.long ∙ c.loop-e.invariant.long;
     }
-
-pub returns : goal.returns
-returns g c =
-    let n = length (state_of c.args.d.now).edges in
-    let l : n ≤ c.loop-e.e = omega (arith, c.loop-e-test.false, c.len-e-end.ensures, c.args.d.now.edges.ok.0, length-map (vec_items c.args.d.now.edges) edge_of) in
-    each_all g.S.Step.step n c.loop-e.e (state_of c.loop-e.d) _ c.loop-e.invariant.left l
