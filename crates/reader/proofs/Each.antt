@@ -34,6 +34,3 @@ module _ (f : State → ℕ → Try State) (n e : ℕ) (st : State) (o : Answer 
 
   pub each_stop : {A B : Type 0} (g : A → State) (k : B → State) (r : Refusal) → e < n → Tells g (Err r) (at (edge_at st.edges e).place (f st e)) → Tells k (Err r) o
   each_stop g k r l h = tells_same k k r _ o (each_here l) (tells_then g k r (at (edge_at st.edges e).place (f st e)) (λ t. each_edge f (n - (e + 1)) (e + 1) t) h)
-
-  pub each_all : n ≤ e → done st ≡ o
-  each_all l = let k : n - e ≡ 0 = omega arith in ap (λ m. each_edge f m e st) (sym k) ∙ so

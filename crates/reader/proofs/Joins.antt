@@ -11,36 +11,12 @@ use Rattle.graph.specs.Question.{ended}
 use Rattle.reader.specs.Values.{spaced, paths_at}
 use Rattle.reader.specs.Told.{Puts, Asks}
 
-pub put_none : (a : List ℕ) (w : List ℕ) → w ≡ [] → a ≡ a ++ w
-put_none a w e = sym (append-nil a) ∙ ap (λ x. a ++ x) (sym e)
-
-module _ (g : List ℕ → List ℕ) (fs : List FileData) (ns : List ℕ) (i : ℕ) where
-  pub joined_step : i < length ns → flat_map g (map (path_at fs) (drop i ns)) ≡ g (path_at fs (get_or ns i 0)) ++ flat_map g (map (path_at fs) (drop (i + 1) ns))
-  joined_step h = ap (λ x. flat_map g (map (path_at fs) x)) (drop_more ns i 0 h)
-
-  pub joined_done : length ns ≤ i → flat_map g (map (path_at fs) (drop i ns)) ≡ []
-  joined_done h = ap (λ x. flat_map g (map (path_at fs) x)) (drop_all i ns h)
-
-  -- a turn of a loop that puts w: what is put so far, items, with what is left comes to z
-  pub joined_turn : (items more z : List ℕ) → i < length ns → more ≡ items ++ g (path_at fs (get_or ns i 0)) → items ++ flat_map g (map (path_at fs) (drop i ns)) ≡ z → more ++ flat_map g (map (path_at fs) (drop (i + 1) ns)) ≡ z
-  joined_turn items more z l h e =
-      ap (λ x. x ++ flat_map g (map (path_at fs) (drop (i + 1) ns))) h
-      ∙ append_assoc items (g (path_at fs (get_or ns i 0))) _
-      ∙ ap (λ x. items ++ x) (sym (joined_step l)) ∙ e
-
-  pub joined_all : (items z : List ℕ) → length ns ≤ i → items ++ flat_map g (map (path_at fs) (drop i ns)) ≡ z → items ≡ z
-  joined_all items z l e = put_none items _ (joined_done l) ∙ e
-
 pub then_two : (x y z a b : List ℕ) → y ≡ x ++ a → z ≡ y ++ b → z ≡ x ++ (a ++ b)
 then_two x y z a b h k = k ∙ ap (λ w. w ++ b) h ∙ append_assoc x a b
 
 pub then_puts : (r : Result (Unit {0}) AllocError) (x y z : Vec ℕ Global) (a b w : List ℕ) → vec_items y ≡ vec_items x ++ a → Puts r y z b → w ≡ a ++ b → Puts r x z w
 then_puts (Ok u) x y z a b w h k e = then_two (vec_items x) (vec_items y) (vec_items z) a b h k ∙ ap (λ v. vec_items x ++ v) (sym e)
 then_puts (Err e) x y z a b w h k q = tt
-
-pub spaced_none : (fs : List FileData) (ns : List ℕ) → length ns ≡ 0 → spaced (paths_at fs ns) ≡ []
-spaced_none fs [] h = refl
-spaced_none fs (n ∷ ns) h = absurd (omega arith)
 
 -- each path with a space before it, and nothing after it
 behind_map : (ps : List (List ℕ)) → flat_map (λ q. 32 ∷ q) ps ≡ flat_map (λ q. 32 ∷ (q ++ [])) ps

@@ -1,9 +1,9 @@
-use Rattle.std.proofs.Common.{◌<◌, ◌≤◌, vec_items, length, ◌∙◌, arith}
+use Rattle.std.proofs.Common.{◌<◌, vec_items, length, ◌∙◌, arith}
 use Rattle.std.proofs.lemmas.List.{length-map}
 use Rattle.std.proofs.lemmas.Result.{err_from_is_err_and}
 use Rattle.graph.specs.Data.{edge_of}
 use Rattle.draft.specs.Drafts.{state_of}
-use Rattle.reader.proofs.Each.{each_more, each_stop, each_all}
+use Rattle.reader.proofs.Each.{each_more, each_stop}
 use Rattle.reader.proofs.edges.each_edge.Goals as goal
 
 pub returns-in_err-step_at : goal.returns-in_err-step_at

@@ -1,6 +1,6 @@
 use Rattle.std.proofs.Common.{map, rules}
 use Rattle.graph.specs.Data.{file_of}
-use Rattle.reader.proofs.Joins.{put_none, then_puts, spaced_none, spaced_first}
+use Rattle.reader.proofs.Joins.{then_puts, spaced_first}
 use Rattle.reader.proofs.paths.put_spaced.Goals as goal
 
 pub returns-in_ok-put_path-in-len1-up : goal.returns-in_ok-put_path-in-len1-up
