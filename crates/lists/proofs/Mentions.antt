@@ -1,9 +1,8 @@
 -- Where a file is found, and a file that an edge makes.
-use Rattle.std.proofs.Common.{◌≡◌, ℕ, ◌+◌, ◌<◌, ◌≤◌, List, [], ◌∷◌, ◌++◌, map, length, get_or, set, IfSome, is_some, Some, None, Option, Bool, true, false, vec_items, sym, refl, ap, ◌∙◌, arith}
-use lib.ListN.{length-map}
+use Rattle.std.proofs.Common.{◌≡◌, ℕ, ◌+◌, ◌<◌, ◌≤◌, List, [], ◌∷◌, map, length, get_or, set, IfSome, is_some, Some, None, Option, Bool, true, false, vec_items, refl, ap, ◌∙◌, arith}
 use Rattle.std.specs.Str.{bytes_eq}
 use Rattle.std.proofs.lemmas.List.{map-set, get_or-map}
-use Rattle.std.proofs.lemmas.Bool.{cond_above, cond_below, cond_both}
+use Rattle.std.proofs.lemmas.Bool.{cond_both}
 use Rattle.store.specs.Try.{got}
 use Rattle.graph.specs.declared.kinds.File.{File}
 use Rattle.graph.specs.Data.{file_of, no_file, path_at, maker_at}

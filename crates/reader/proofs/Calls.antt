@@ -1,18 +1,17 @@
 -- What the calls for one edge come to: the values that it gets, its pool, and its question.
-use Rattle.std.proofs.Common.{◌≡◌, ℕ, zero, suc, ◌<◌, ◌==◌, Bool, true, false, not, codes, List, [], ◌∷◌, map, length, get_or, set, Option, sym, refl, ap, ◌∙◌, subst, arith}
-use Rattle.std.proofs.lemmas.List.{get_or-map, get_or-set_same, map-set}
+use Rattle.std.proofs.Common.{◌≡◌, ℕ, suc, ◌<◌, ◌==◌, Bool, true, false, not, codes, List, [], ◌∷◌, map, length, get_or, set, Option, sym, refl, ap, ◌∙◌, subst, arith}
+use Rattle.std.proofs.lemmas.List.{get_or-map, map-set}
 use Rattle.std.proofs.lemmas.Bool.Decides.{Decides-eqb}
 use Rattle.graph.specs.declared.kinds.Edge.{Edge}
 use Rattle.graph.specs.declared.kinds.Pool.{Pool}
-use Rattle.graph.specs.Data.{FileData, PoolData, pool_of, EdgeData, edge_of, no_edge, edge_at}
-use Rattle.graph.specs.Question.{question_of}
+use Rattle.graph.specs.Data.{PoolData, pool_of, EdgeData, edge_of, no_edge, edge_at}
 use Rattle.store.specs.declared.wrong.Stop.{Stop}
 use Rattle.store.specs.declared.wrong.Stop.TheVariants.{Because, Memory}
 use Rattle.store.specs.Try.{Try, got, wrong, and_try, Stops}
 use Rattle.expansion.specs.Model.{TextsData, ask}
 use Rattle.draft.specs.State.{State}
 use Rattle.draft.specs.Statements.{pool_at}
-use Rattle.reader.specs.Values.{paths_at, pool_found, pool_named, given, value_for, with_values, valued, with_question, with_edge_at, question_for, asked}
+use Rattle.reader.specs.Values.{pool_found, pool_named, given, value_for, with_values, valued, with_question, with_edge_at, question_for, asked}
 use Rattle.reader.specs.Given.{ValuesData, values_for}
 
 -- a pool that a text names which is not empty

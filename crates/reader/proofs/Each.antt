@@ -1,18 +1,13 @@
 -- One step more of a loop that follows each_edge.
-use Rattle.std.proofs.Common.{◌≡◌, ℕ, suc, ◌+◌, ◌-◌, ◌<◌, ◌≤◌, length, Err, sym, ap, ◌∙◌, arith}
-use Rattle.std.proofs.lemmas.List.{length-set}
-use Rattle.graph.specs.Data.{EdgeData, edge_at}
-use Rattle.store.specs.Try.{Try, got, wrong, and_try}
-use Rattle.expansion.specs.Model.{TextsData, ask}
+use Rattle.std.proofs.Common.{◌≡◌, ℕ, suc, ◌+◌, ◌-◌, ◌<◌, Err, sym, ap, ◌∙◌, arith}
+use Rattle.graph.specs.Data.{edge_at}
+use Rattle.store.specs.Try.{Try}
 use Rattle.draft.specs.State.{State}
 use Rattle.reader.specs.declared.fault.Refusal.{Refusal}
 use Rattle.reader.specs.declared.fault.Refusal.TheVariants.{Faulty, Memory}
 use Rattle.reader.specs.Answers.{Answer, done, and_done, at}
-use Rattle.reader.specs.Given.{values_for}
 use Rattle.reader.specs.Load.{each_edge}
 use Rattle.reader.specs.Told.{Tells}
-use Rattle.reader.specs.Values.{with_edge_at, with_values, with_question, question_for, valued, asked}
-use Rattle.reader.proofs.Calls.{valued_then}
 
 module _ {A B : Type 0} (f : A → B) where
   pub tells_then : {C X : Type 0} (g : X → C) (r : Refusal) (o : Answer B) (k : B → Answer C) → Tells f (Err r) o → Tells g (Err r) (and_done o k)

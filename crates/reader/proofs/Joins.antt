@@ -1,12 +1,10 @@
 -- Paths put one after the other.
-use Rattle.std.proofs.Common.{◌≡◌, ℕ, ◌+◌, ◌-◌, ◌<◌, ◌≤◌, cond, List, [], ◌∷◌, ◌++◌, map, length, get_or, take, drop, is_ok, Ok, Err, vec_items, Result, Vec, sym, refl, ap, ◌∙◌, append_assoc, append-nil, arith}
-use lib.ListN.{length-map}
-use Rattle.std.proofs.lemmas.List.{drop_more, drop_all, get_or-map, get_or_past, take_rest}
+use Rattle.std.proofs.Common.{◌≡◌, ℕ, ◌-◌, ◌<◌, List, [], ◌∷◌, ◌++◌, length, get_or, take, drop, Ok, Err, vec_items, Result, Vec, sym, refl, ap, ◌∙◌, append_assoc, append-nil, arith}
+use Rattle.std.proofs.lemmas.List.{take_rest}
 use Rattle.std.specs.List.{flat_map}
 use Rattle.std.specs.declared.alloc.AllocError.{AllocError}
 use Rattle.std.specs.declared.alloc.Global.{Global}
-use Rattle.graph.specs.declared.kinds.File.{File}
-use Rattle.graph.specs.Data.{FileData, file_of, no_file, path_at}
+use Rattle.graph.specs.Data.{FileData, path_at}
 use Rattle.graph.specs.Question.{ended}
 use Rattle.reader.specs.Values.{spaced, paths_at}
 use Rattle.reader.specs.Told.{Puts, Asks}

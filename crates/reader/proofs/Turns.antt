@@ -1,25 +1,16 @@
 -- One statement more of a reading that follows read_rest.
-use Rattle.std.proofs.Common.{◌≡◌, ℕ, zero, suc, ◌<◌, List, length, Some, None, Err, Option, sym, refl, ap, ◌∙◌, subst, arith}
-use Rattle.cursor.specs.Scan.{ok, bad}
+use Rattle.std.proofs.Common.{◌≡◌, ℕ, zero, suc, ◌<◌, List, length, Some, Option, sym, refl, ap, ◌∙◌, subst, arith}
+use Rattle.cursor.specs.Scan.{ok}
 use Rattle.cursor.specs.Told.{maybe}
-use Rattle.cursor.specs.declared.place.Fault.{Fault as TextFault}
 use Rattle.cursor.proofs.Moves.{Moves, some}
-use Rattle.parts.specs.declared.refusal.Refusal.{Refusal as TextRefusal}
-use Rattle.parts.specs.declared.refusal.Refusal.TheVariants.{Faulty as BadText, Memory as NoMemory}
-use Rattle.parts.specs.Parts.{Stops}
 use Rattle.text.specs.declared.kinds.Statement.{Statement}
 use Rattle.text.specs.Text.{Stated, next, stated_of}
 use Rattle.text.proofs.Moves.{next_statement_moves}
 use Rattle.draft.specs.State.{State}
 use Rattle.draft.specs.Statements.{add}
-use Rattle.reader.specs.declared.fault.Fault.TheVariants.{Text}
-use Rattle.reader.specs.declared.fault.Refusal.{Refusal}
-use Rattle.reader.specs.declared.fault.Refusal.TheVariants.{Faulty, Memory}
-use Rattle.reader.specs.Answers.{Answer, done, failed, and_done, at}
+use Rattle.reader.specs.Answers.{Answer, done, and_done, at}
 use Rattle.reader.specs.Load.{step_on, read_on}
 use Rattle.reader.specs.Reading.{read_rest}
-use Rattle.reader.specs.Told.{Tells}
-use Rattle.reader.proofs.Each.{tells_then, tells_same}
 
 -- what is read so far, st, and what is left come to o
 pub record Left (o : Answer State) (i : ℕ) (s : List ℕ) (st : State) : Type 0 where
