@@ -26,4 +26,4 @@ edges_of v = map edge_of (vec_items v)
 -- what the statements have come to so far
 abbrev pub state_of : Draft → State
 state_of d =
-    record { texts = texts_of d.texts; rules = rules_of d.rules; pools = pools_of d.pools; files = files_of d.files; edges = edges_of d.edges; chosen = vec_items d.chosen }
+    record { texts = texts_of d.known.texts; rules = rules_of d.rules; pools = pools_of d.pools; files = files_of d.known.files; edges = edges_of d.edges; chosen = vec_items d.chosen }

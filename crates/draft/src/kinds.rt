@@ -1,15 +1,14 @@
 // What the statements of a manifest have come to so far.
-use expansion::Texts;
-use graph::{Edge, File, Pool};
+use graph::{Edge, Pool};
+use lists::Known;
 use text::Declared;
 
 #[derive(Drop)]
 pub struct Draft<'a> {
-    pub texts: Texts<'a>,
+    pub known: Known<'a>,
     pub rules: Vec<Declared<'a>>,
     pub pools: Vec<Pool>,
-    pub files: Vec<File>,
     pub edges: Vec<Edge>,
-    // the rule of each edge
+    // the rule of each edge; beside the edges, since a graph takes the list of these as it is
     pub chosen: Vec<usize>,
 }

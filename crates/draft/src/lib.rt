@@ -4,6 +4,5 @@
 mod blocks;
 pub mod kinds;
 pub mod statements;
-mod tables;
 
 pub use kinds::Draft;

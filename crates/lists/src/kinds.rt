@@ -1,4 +1,13 @@
-// The lists of an edge.
+// What paths become: files among all texts and files, and the lists of an edge.
+use expansion::Texts;
+use graph::File;
+
+// The texts and files of a manifest as far as it is read.
+#[derive(Drop)]
+pub struct Known<'a> {
+    pub texts: Texts<'a>,
+    pub files: Vec<File>,
+}
 
 // The files of an edge, by number.
 #[derive(Drop)]

@@ -5,5 +5,5 @@ mod files;
 pub mod kinds;
 pub mod paths;
 
-pub use kinds::Paths;
+pub use kinds::{Known, Paths};
 pub use paths::take_paths;

@@ -1,19 +1,15 @@
 // The paths of a build statement, list by list.
-ghost use Rattle.std.specs.Prelude.{[], map};
+ghost use Rattle.std.specs.Prelude.{ℕ, List, [], map};
 ghost use Rattle.expansion.specs.Meaning.{texts_of};
-ghost use Rattle.parts.specs.Parts.{paths_of};
-ghost use Rattle.store.specs.Try.{Gives};
+ghost use Rattle.store.specs.Try.{Try, Gives};
 ghost use Rattle.text.specs.Text.{work_of};
 ghost use Rattle.lists.specs.Meaning.{files_of, walk_of, lists_of};
-ghost use Rattle.lists.specs.Files.{take_input, take_output};
+ghost use Rattle.lists.specs.Files.{Walk, take_input, take_output};
 ghost use Rattle.lists.specs.Each.{each_try};
 ghost use Rattle.lists.specs.Paths.{take_paths};
 
 use crate::files::{claim, listed, mention};
-use crate::kinds::Paths;
-use expansion::Texts;
-use graph::File;
-use std::alloc::Global;
+use crate::kinds::{Known, Paths};
 use store::Stop;
 use text::Edge;
 
@@ -24,106 +20,96 @@ const INPUTS: usize = 64;
 
 const VALIDATIONS: usize = 16;
 
-// Takes a path of a list of at most k.
-fn take_input<'a>(
-    heap: Global,
-    k: usize,
-    texts: &mut Texts<'a>,
-    files: &mut Vec<File>,
-    found: &mut Vec<usize>,
-    path: &'a [u8],
-) -> Result<(), Stop>
-    ensures { Gives (λ _. walk_of texts.new files.new found.new) result (take_input k (walk_of texts.old files.old found.old) path.now) }
-{
-    let t = texts.read_path(path)?;
-    let i = mention(heap, files, texts.text(t))?;
-    listed(k, found, i)?;
-    Ok(())
+// How the paths of a list are taken.
+trait Taking {
+    ghost taken: { Self → Walk → List ℕ → Try Walk };
+
+    // Takes one path.
+    fn take<'a>(
+        &self,
+        known: &mut Known<'a>,
+        found: &mut Vec<usize>,
+        path: &'a [u8],
+    ) -> Result<(), Stop>
+        ensures { Gives (λ _. walk_of known.new found.new) result (taken self.now (walk_of known.old found.old) path.now) };
 }
 
-// Takes a path of the outputs of the edge e.
-fn take_output<'a>(
-    heap: Global,
-    e: usize,
-    texts: &mut Texts<'a>,
-    files: &mut Vec<File>,
-    found: &mut Vec<usize>,
-    path: &'a [u8],
-) -> Result<(), Stop>
-    ensures { Gives (λ _. walk_of texts.new files.new found.new) result (take_output e (walk_of texts.old files.old found.old) path.now) }
-{
-    let t = texts.read_path(path)?;
-    let i = mention(heap, files, texts.text(t))?;
-    claim(files, i, e)?;
-    listed(OUTPUTS, found, i)?;
-    Ok(())
-}
+// Inputs or validations, at most so many.
+#[derive(Drop)]
+struct AtMost(usize);
 
-// Takes the paths of a list of at most k.
-fn take_inputs<'a>(
-    heap: Global,
-    k: usize,
-    texts: &mut Texts<'a>,
-    files: &mut Vec<File>,
-    found: &mut Vec<usize>,
-    paths: &[&'a [u8]],
-) -> Result<(), Stop>
-    ensures { Gives (λ _. walk_of texts.new files.new found.new) result (each_try (take_input k) (walk_of texts.old files.old found.old) (map (λ x. x.now) paths.now)) }
-{
-    for p in paths {
-        take_input(heap, k, texts, files, found, *p)?;
+impl Taking for AtMost {
+    ghost taken = { λ s. take_input s.0 };
+
+    fn take<'a>(
+        &self,
+        known: &mut Known<'a>,
+        found: &mut Vec<usize>,
+        path: &'a [u8],
+    ) -> Result<(), Stop> {
+        let text = known.texts.read_path(path)?;
+        let i = mention(&mut known.files, known.texts.text(text))?;
+        listed(self.0, found, i)
     }
-    Ok(())
 }
 
-// Takes the outputs of the edge e.
-fn take_outputs<'a>(
-    heap: Global,
-    e: usize,
-    texts: &mut Texts<'a>,
-    files: &mut Vec<File>,
+// The outputs of the edge with the number.
+#[derive(Drop)]
+struct MadeBy(usize);
+
+impl Taking for MadeBy {
+    ghost taken = { λ s. take_output s.0 };
+
+    fn take<'a>(
+        &self,
+        known: &mut Known<'a>,
+        found: &mut Vec<usize>,
+        path: &'a [u8],
+    ) -> Result<(), Stop> {
+        let text = known.texts.read_path(path)?;
+        let i = mention(&mut known.files, known.texts.text(text))?;
+        claim(&mut known.files, i, self.0)?;
+        listed(OUTPUTS, found, i)
+    }
+}
+
+// Takes the paths of a list, or of a part of it.
+fn take_all<'a, T: Taking>(
+    how: &T,
+    known: &mut Known<'a>,
     found: &mut Vec<usize>,
     paths: &[&'a [u8]],
 ) -> Result<(), Stop>
-    ensures { Gives (λ _. walk_of texts.new files.new found.new) result (each_try (take_output e) (walk_of texts.old files.old found.old) (map (λ x. x.now) paths.now)) }
+    ensures { Gives (λ _. walk_of known.new found.new) result (each_try (T.taken how.now) (walk_of known.old found.old) (map (λ x. x.now) paths.now)) }
 {
-    for p in paths {
-        take_output(heap, e, texts, files, found, *p)?;
+    for path in paths {
+        how.take(known, found, *path)?;
     }
     Ok(())
 }
 
 // Takes the paths of a build statement as those of the edge e.
-pub fn take_paths<'a>(
-    heap: Global,
-    e: usize,
-    texts: &mut Texts<'a>,
-    files: &mut Vec<File>,
-    w: &Edge<'a>,
-) -> Result<Paths, Stop>
-    ensures { Gives (lists_of texts.exit.now files.new) result (take_paths e (record { texts = texts_of texts.entry.now; files = files_of files.old; found = [] }) (work_of w.now)) }
+pub fn take_paths<'a>(e: usize, known: &mut Known<'a>, w: &Edge<'a>) -> Result<Paths, Stop>
+    ensures { Gives (lists_of known.new) result (take_paths e (record { texts = texts_of known.old.texts; files = files_of known.old.files; found = [] }) (work_of w.now)) }
 {
+    let heap = *known.files.allocator();
     let mut outputs = Vec::new(heap);
-    take_outputs(heap, e, texts, files, &mut outputs, &w.outputs.explicit)?;
-    take_outputs(heap, e, texts, files, &mut outputs, &w.outputs.implicit)?;
+    take_all(&MadeBy(e), known, &mut outputs, &w.outputs.explicit)?;
+    take_all(&MadeBy(e), known, &mut outputs, &w.outputs.implicit)?;
     let mut reads = Vec::new(heap);
-    take_inputs(heap, INPUTS, texts, files, &mut reads, &w.inputs.explicit)?;
-    take_inputs(heap, INPUTS, texts, files, &mut reads, &w.inputs.implicit)?;
+    take_all(&AtMost(INPUTS), known, &mut reads, &w.inputs.explicit)?;
+    take_all(&AtMost(INPUTS), known, &mut reads, &w.inputs.implicit)?;
     let mut order_only = Vec::new(heap);
-    take_inputs(
-        heap,
-        INPUTS,
-        texts,
-        files,
+    take_all(
+        &AtMost(INPUTS),
+        known,
         &mut order_only,
         &w.inputs.order_only,
     )?;
     let mut validations = Vec::new(heap);
-    take_inputs(
-        heap,
-        VALIDATIONS,
-        texts,
-        files,
+    take_all(
+        &AtMost(VALIDATIONS),
+        known,
         &mut validations,
         &w.inputs.validations,
     )?;

@@ -1,24 +1,23 @@
 -- What the calls for one edge come to: the values that it gets, its pool, and its question.
-use Rattle.std.proofs.Common.{◌≡◌, ℕ, zero, suc, ◌<◌, ◌==◌, Bool, true, false, not, codes, List, [], ◌∷◌, map, length, get_or, set, Option, sym, refl, ap, ◌∙◌, subst, arith}
-use Rattle.std.proofs.lemmas.List.{get_or-map, get_or-set_same, map-set}
+use Rattle.std.proofs.Common.{◌≡◌, ℕ, suc, ◌<◌, ◌==◌, Bool, true, false, not, codes, List, [], ◌∷◌, map, length, get_or, set, Option, sym, refl, ap, ◌∙◌, subst, arith}
+use Rattle.std.proofs.lemmas.List.{get_or-map, map-set}
 use Rattle.std.proofs.lemmas.Bool.Decides.{Decides-eqb}
 use Rattle.graph.specs.declared.kinds.Edge.{Edge}
 use Rattle.graph.specs.declared.kinds.Pool.{Pool}
-use Rattle.graph.specs.Data.{FileData, PoolData, pool_of, EdgeData, edge_of, no_edge, edge_at}
-use Rattle.graph.specs.Question.{question_of}
+use Rattle.graph.specs.Data.{PoolData, pool_of, EdgeData, edge_of, no_edge, edge_at}
 use Rattle.store.specs.declared.wrong.Stop.{Stop}
 use Rattle.store.specs.declared.wrong.Stop.TheVariants.{Because, Memory}
 use Rattle.store.specs.Try.{Try, got, wrong, and_try, Stops}
 use Rattle.expansion.specs.Model.{TextsData, ask}
 use Rattle.draft.specs.State.{State}
 use Rattle.draft.specs.Statements.{pool_at}
-use Rattle.reader.specs.Values.{paths_at, pool_found, pool_named, given, value_for, with_values, valued, with_question, with_edge_at, question_for, asked}
+use Rattle.reader.specs.Values.{pool_found, pool_named, given, value_for, with_values, valued, with_question, with_edge_at, question_for, asked}
 use Rattle.reader.specs.Given.{ValuesData, values_for}
 
 -- a pool that a text names which is not empty
-pub named_found : (ps : List PoolData) (n : List ℕ) (b : Bool) → b ≡ (length n == 0) → b ≡ false → (o : Option ℕ) → o ≡ pool_at ps n → pool_found o ≡ pool_named ps n
-named_found ps [] b e f o h = let z : ◌≡◌ {A = Bool} true false = sym e ∙ f in absurd (cc)
-named_found ps (x ∷ n) b e f o h = ap pool_found h
+pub named_is : (ps : List PoolData) (n : List ℕ) → (length n == 0) ≡ false → pool_named ps n ≡ pool_found (pool_at ps n)
+named_is ps [] e = let z : ◌≡◌ {A = Bool} true false = e in cc
+named_is ps (x ∷ n) e = refl
 
 -- a pool that is looked for in a slice of all pools
 pub named_seen : (ps qs : List Pool) (n m : List ℕ) → qs ≡ ps → m ≡ n → pool_named (map pool_of qs) m ≡ pool_named (map pool_of ps) n
@@ -78,11 +77,6 @@ chain_then (got c) (got d) (wrong w) v4 v5 make g = refl
 chain_then (got c) (got d) (got p) (wrong w) v5 make g = refl
 chain_then (got c) (got d) (got p) (got r) v5 make g = and_then_try (v5 p) (λ k. got (make c d r k)) (λ x. got (g x))
 
-set_twice : {A : Type 0} (xs : List A) (i : ℕ) (a b : A) → set (set xs i a) i b ≡ set xs i b
-set_twice [] i a b = refl
-set_twice (x ∷ xs) zero a b = refl
-set_twice (x ∷ xs) (suc i) a b = ap (λ ys. x ∷ ys) (set_twice xs i a b)
-
 -- an edge that was changed in a list
 module _ (es : List Edge) (e : ℕ) (l : e < length es) (old : Edge) (r : old ≡ get_or es e old) where
   pub edge_there : edge_of old ≡ edge_at (map edge_of es) e
@@ -90,23 +84,6 @@ module _ (es : List Edge) (e : ℕ) (l : e < length es) (old : Edge) (r : old �
 
   pub edge_changed : (new : Edge) (f : EdgeData → EdgeData) → edge_of new ≡ f (edge_of old) → map edge_of (set es e new) ≡ set (map edge_of es) e (f (edge_at (map edge_of es) e))
   edge_changed new f h = map-set edge_of es e new ∙ ap (set (map edge_of es) e) (h ∙ ap f edge_there)
-
-  -- its question taken out, and another put in
-  module _ (t new mid ix1 ix2 : Edge) (q : List ℕ) (at : edge_of t ≡ with_question (edge_of old) []) (rm : mid ≡ get_or (set es e t) e mid) (r1 : ix1 ≡ get_or (set es e t) e ix1) (r2 : ix2 ≡ get_or (set es e t) e ix2) where
-    taken : (x : Edge) → x ≡ get_or (set es e t) e x → edge_of x ≡ with_question (edge_at (map edge_of es) e) []
-    taken x h = ap edge_of (h ∙ get_or-set_same es e t x l) ∙ at ∙ ap (λ y. with_question y []) edge_there
-
-    pub asked_edges : edge_of new ≡ with_question (edge_of mid) q → map edge_of (set (set es e t) e new) ≡ set (map edge_of es) e (with_question (edge_at (map edge_of es) e) q)
-    asked_edges h =
-        ap (map edge_of) (set_twice es e t new) ∙ map-set edge_of es e new
-        ∙ ap (set (map edge_of es) e) (h ∙ ap (λ y. with_question y q) (taken mid rm))
-
-    pub asked_text : (fs : List FileData) (q0 rs os : List ℕ) → q0 ≡ (edge_of old).question → rs ≡ (edge_of ix1).reads → os ≡ (edge_of ix2).outputs → q ≡ question_of q0 (paths_at fs rs) (paths_at fs os) → q ≡ question_for fs (edge_at (map edge_of es) e)
-    asked_text fs q0 rs os a b c h =
-        h
-        ∙ ap (λ z. question_of z (paths_at fs rs) (paths_at fs os)) (a ∙ ap (λ x. x.question) edge_there)
-        ∙ ap (λ z. question_of (edge_at (map edge_of es) e).question (paths_at fs z) (paths_at fs os)) (b ∙ ap (λ x. x.reads) (taken ix1 r1))
-        ∙ ap (λ z. question_of (edge_at (map edge_of es) e).question (paths_at fs (edge_at (map edge_of es) e).reads) (paths_at fs z)) (c ∙ ap (λ x. x.outputs) (taken ix2 r2))
 
 -- a state with its question asked
 pub asked_done : (st : State) (e : ℕ) (d : TextsData) (q : List ℕ) (es : List EdgeData) → q ≡ question_for st.files (edge_at st.edges e) → got d ≡ ask st.texts q → es ≡ set st.edges e (with_question (edge_at st.edges e) q) → got (record { texts = d; rules = st.rules; pools = st.pools; files = st.files; edges = es; chosen = st.chosen }) ≡ asked st e
@@ -151,6 +128,3 @@ valued_done st e v es h a =
     ap (λ x. got (record { texts = st.texts; rules = st.rules; pools = st.pools; files = st.files; edges = x; chosen = st.chosen })) a
     ∙ given_on v (values_for st e) (λ w. got (with_edge_at st st.texts e (with_values (edge_at st.edges e) w.command w.description w.pool w.restat))) h
     ∙ valued_then st e
-
-pub valued_stops : (st : State) (e : ℕ) (s : Stop) → Stops s (values_for st e) → Stops s (valued st e)
-valued_stops st e s h = subst (Stops s) (valued_then st e) (stops_on s (values_for st e) _ h)

@@ -1,22 +1,13 @@
 -- One step more of a loop that follows each_edge.
-use Rattle.std.proofs.Common.{◌≡◌, ℕ, suc, ◌+◌, ◌-◌, ◌<◌, ◌≤◌, length, Err, sym, ap, ◌∙◌, arith}
-use Rattle.std.proofs.lemmas.List.{length-set}
-use Rattle.graph.specs.Data.{EdgeData, edge_at}
-use Rattle.store.specs.Try.{Try, got, wrong, and_try}
-use Rattle.expansion.specs.Model.{TextsData, ask}
+use Rattle.std.proofs.Common.{◌≡◌, ℕ, suc, ◌+◌, ◌-◌, ◌<◌, Err, sym, ap, ◌∙◌, arith}
+use Rattle.graph.specs.Data.{edge_at}
+use Rattle.store.specs.Try.{Try}
 use Rattle.draft.specs.State.{State}
 use Rattle.reader.specs.declared.fault.Refusal.{Refusal}
 use Rattle.reader.specs.declared.fault.Refusal.TheVariants.{Faulty, Memory}
 use Rattle.reader.specs.Answers.{Answer, done, and_done, at}
-use Rattle.reader.specs.Given.{values_for}
 use Rattle.reader.specs.Load.{each_edge}
 use Rattle.reader.specs.Told.{Tells}
-use Rattle.reader.specs.Values.{with_edge_at, with_values, with_question, question_for, valued, asked}
-use Rattle.reader.proofs.Calls.{valued_then}
-
-pub at_got : {A : Type 0} (p : ℕ) (a : A) (o : Try A) → done a ≡ at p o → got a ≡ o
-at_got p a (got x) h = let e : a ≡ x = cc in ap got e
-at_got p a (wrong w) h = let z : ◌≡◌ {A = ℕ} 0 1 = cc in absurd (omega arith)
 
 module _ {A B : Type 0} (f : A → B) where
   pub tells_then : {C X : Type 0} (g : X → C) (r : Refusal) (o : Answer B) (k : B → Answer C) → Tells f (Err r) o → Tells g (Err r) (and_done o k)
@@ -38,19 +29,3 @@ module _ (f : State → ℕ → Try State) (n e : ℕ) (st : State) (o : Answer 
 
   pub each_stop : {A B : Type 0} (g : A → State) (k : B → State) (r : Refusal) → e < n → Tells g (Err r) (at (edge_at st.edges e).place (f st e)) → Tells k (Err r) o
   each_stop g k r l h = tells_same k k r _ o (each_here l) (tells_then g k r (at (edge_at st.edges e).place (f st e)) (λ t. each_edge f (n - (e + 1)) (e + 1) t) h)
-
-  pub each_all : n ≤ e → done st ≡ o
-  each_all l = let k : n - e ≡ 0 = omega arith in ap (λ m. each_edge f m e st) (sym k) ∙ so
-
--- a step that changes an edge keeps how many there are
-long_by : {X : Type 0} (o : Try X) (d : X → TextsData) (f : X → EdgeData) (st : State) (e : ℕ) (t : State) → got t ≡ and_try o (λ x. got (with_edge_at st (d x) e (f x))) → length t.edges ≡ length st.edges
-long_by (got x) d f st e t h = let q : t ≡ with_edge_at st (d x) e (f x) = cc in ap (λ s. length s.edges) q ∙ length-set st.edges e (f x)
-long_by (wrong w) d f st e t h = let z : ◌≡◌ {A = ℕ} 0 1 = cc in absurd (omega arith)
-
-pub valued_long : (st : State) (e p : ℕ) (t : State) → done t ≡ at p (valued st e) → length t.edges ≡ length st.edges
-valued_long st e p t h =
-    long_by (values_for st e) (λ v. st.texts) (λ v. with_values (edge_at st.edges e) v.command v.description v.pool v.restat) st e t (at_got p t (valued st e) h ∙ sym (valued_then st e))
-
-pub asked_long : (st : State) (e p : ℕ) (t : State) → done t ≡ at p (asked st e) → length t.edges ≡ length st.edges
-asked_long st e p t h =
-    long_by (ask st.texts (question_for st.files (edge_at st.edges e))) (λ d. d) (λ d. with_question (edge_at st.edges e) (question_for st.files (edge_at st.edges e))) st e t (at_got p t (asked st e) h)

@@ -1,45 +1,13 @@
 -- Paths put one after the other.
-use Rattle.std.proofs.Common.{◌≡◌, ℕ, ◌+◌, ◌-◌, ◌<◌, ◌≤◌, cond, List, [], ◌∷◌, ◌++◌, map, length, get_or, take, drop, is_ok, Ok, Err, vec_items, Result, Vec, sym, refl, ap, ◌∙◌, append_assoc, append-nil, arith}
-use lib.ListN.{length-map}
-use Rattle.std.proofs.lemmas.List.{drop_more, drop_all, get_or-map, get_or_past, take_rest}
+use Rattle.std.proofs.Common.{◌≡◌, ℕ, ◌-◌, ◌<◌, List, [], ◌∷◌, ◌++◌, length, get_or, take, drop, Ok, Err, vec_items, Result, Vec, sym, refl, ap, ◌∙◌, append_assoc, append-nil, arith}
+use Rattle.std.proofs.lemmas.List.{take_rest}
 use Rattle.std.specs.List.{flat_map}
 use Rattle.std.specs.declared.alloc.AllocError.{AllocError}
 use Rattle.std.specs.declared.alloc.Global.{Global}
-use Rattle.graph.specs.declared.kinds.File.{File}
-use Rattle.graph.specs.Data.{FileData, file_of, no_file, path_at}
+use Rattle.graph.specs.Data.{FileData, path_at}
 use Rattle.graph.specs.Question.{ended}
 use Rattle.reader.specs.Values.{spaced, paths_at}
 use Rattle.reader.specs.Told.{Puts, Asks}
-
-pub path_past : (fs : List File) (f : ℕ) → length fs ≤ f → path_at (map file_of fs) f ≡ []
-path_past fs f h = ap (λ x. x.path) (get_or_past (map file_of fs) f no_file (simp length-map h))
-
-pub path_here : (fs : List File) (f : ℕ) (x : File) → f < length fs → x ≡ get_or fs f x → vec_items x.path ≡ path_at (map file_of fs) f
-path_here fs f x h e = ap (λ y. vec_items y.path) e ∙ sym (ap (λ y. y.path) (get_or-map file_of fs f x no_file h))
-
-pub extended : (r : Result (Unit {0}) AllocError) (a b : Vec ℕ Global) (more w : List ℕ) → vec_items b ≡ cond (is_ok r) (vec_items a ++ more) (vec_items a) → more ≡ w → Puts r a b w
-extended (Ok u) a b more w h e = h ∙ ap (λ x. vec_items a ++ x) e
-extended (Err x) a b more w h e = tt
-
-pub put_none : (a : List ℕ) (w : List ℕ) → w ≡ [] → a ≡ a ++ w
-put_none a w e = sym (append-nil a) ∙ ap (λ x. a ++ x) (sym e)
-
-module _ (g : List ℕ → List ℕ) (fs : List FileData) (ns : List ℕ) (i : ℕ) where
-  pub joined_step : i < length ns → flat_map g (map (path_at fs) (drop i ns)) ≡ g (path_at fs (get_or ns i 0)) ++ flat_map g (map (path_at fs) (drop (i + 1) ns))
-  joined_step h = ap (λ x. flat_map g (map (path_at fs) x)) (drop_more ns i 0 h)
-
-  pub joined_done : length ns ≤ i → flat_map g (map (path_at fs) (drop i ns)) ≡ []
-  joined_done h = ap (λ x. flat_map g (map (path_at fs) x)) (drop_all i ns h)
-
-  -- a turn of a loop that puts w: what is put so far, items, with what is left comes to z
-  pub joined_turn : (items more z : List ℕ) → i < length ns → more ≡ items ++ g (path_at fs (get_or ns i 0)) → items ++ flat_map g (map (path_at fs) (drop i ns)) ≡ z → more ++ flat_map g (map (path_at fs) (drop (i + 1) ns)) ≡ z
-  joined_turn items more z l h e =
-      ap (λ x. x ++ flat_map g (map (path_at fs) (drop (i + 1) ns))) h
-      ∙ append_assoc items (g (path_at fs (get_or ns i 0))) _
-      ∙ ap (λ x. items ++ x) (sym (joined_step l)) ∙ e
-
-  pub joined_all : (items z : List ℕ) → length ns ≤ i → items ++ flat_map g (map (path_at fs) (drop i ns)) ≡ z → items ≡ z
-  joined_all items z l e = put_none items _ (joined_done l) ∙ e
 
 pub then_two : (x y z a b : List ℕ) → y ≡ x ++ a → z ≡ y ++ b → z ≡ x ++ (a ++ b)
 then_two x y z a b h k = k ∙ ap (λ w. w ++ b) h ∙ append_assoc x a b
@@ -48,13 +16,14 @@ pub then_puts : (r : Result (Unit {0}) AllocError) (x y z : Vec ℕ Global) (a b
 then_puts (Ok u) x y z a b w h k e = then_two (vec_items x) (vec_items y) (vec_items z) a b h k ∙ ap (λ v. vec_items x ++ v) (sym e)
 then_puts (Err e) x y z a b w h k q = tt
 
-pub spaced_none : (fs : List FileData) (ns : List ℕ) → length ns ≡ 0 → spaced (paths_at fs ns) ≡ []
-spaced_none fs [] h = refl
-spaced_none fs (n ∷ ns) h = absurd (omega arith)
+-- each path with a space before it, and nothing after it
+behind_map : (ps : List (List ℕ)) → flat_map (λ q. 32 ∷ q) ps ≡ flat_map (λ q. 32 ∷ (q ++ [])) ps
+behind_map [] = refl
+behind_map (p ∷ ps) = ap (λ x. 32 ∷ (x ++ flat_map (λ q. 32 ∷ q) ps)) (sym (append-nil p)) ∙ ap (λ x. 32 ∷ ((p ++ []) ++ x)) (behind_map ps)
 
-pub spaced_first : (fs : List FileData) (ns : List ℕ) → 0 < length ns → spaced (paths_at fs ns) ≡ path_at fs (get_or ns 0 0) ++ flat_map (λ q. 32 ∷ q) (paths_at fs (take (length ns - 1) (drop 1 ns)))
+pub spaced_first : (fs : List FileData) (ns : List ℕ) → 0 < length ns → spaced (paths_at fs ns) ≡ path_at fs (get_or ns 0 0) ++ flat_map (λ q. 32 ∷ (q ++ [])) (paths_at fs (take (length ns - 1) (drop 1 ns)))
 spaced_first fs [] h = absurd (omega arith)
-spaced_first fs (n ∷ ns) h = rw (take_rest (n ∷ ns) 1)
+spaced_first fs (n ∷ ns) h = rw (take_rest (n ∷ ns) 1) (ap (λ x. path_at fs n ++ x) (behind_map (paths_at fs ns)))
 
 -- each path with a byte 0 after it, put by a map
 ended_map : (ps : List (List ℕ)) → flat_map (λ p. p ++ 0 ∷ []) ps ≡ ended ps

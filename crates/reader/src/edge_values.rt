@@ -1,63 +1,59 @@
 // What an edge's rule says of it, once all statements are read.
-ghost use Rattle.std.specs.Prelude.{◌≡◌, ◌<◌, map, length, vec_items, slice_index};
+ghost use Rattle.std.specs.Prelude.{◌≡◌, ◌<◌, map, length, vec_items};
 ghost use Rattle.cursor.specs.Told.{maybe};
 ghost use Rattle.store.specs.Try.{Gives};
-ghost use Rattle.graph.specs.Data.{pool_of, edge_of, edge_at};
+ghost use Rattle.graph.specs.Data.{pool_of, edge_at};
 ghost use Rattle.names.specs.Named.{last_of};
 ghost use Rattle.draft.specs.Drafts.{state_of};
-ghost use Rattle.reader.specs.Values.{in_text, out_text, rule_of, value_for, pool_named, with_values, valued};
+ghost use Rattle.reader.specs.Values.{in_text, out_text, rule_of, value_for, pool_named, valued};
 ghost use Rattle.reader.specs.Given.{values_of, values_for};
 
+use crate::edges::Step;
 use crate::kinds::Values;
 use crate::paths::{in_text, out_text};
 use draft::Draft;
-use graph::{Edge, Pool};
+use graph::Pool;
 use names::{last_value, place_of};
 use std::alloc::Global;
 use store::{Stop, Wrong};
 
-// The number at a place, 0 past the end.
-fn number_at(ns: &[usize], i: usize) -> usize
-    ensures { result ≡ slice_index ns.now i }
-{
-    if i >= ns.len() {
-        return 0;
-    }
-    ns[i]
-}
-
-// The last line of an edge's rule that sets a name.
-fn rule_line<'a>(d: &Draft<'a>, e: usize, name: &[u8]) -> Option<&'a [u8]>
-    ensures { maybe (λ x. x.now) result ≡ last_of (rule_of (state_of d.now) e).lines name.now }
-{
-    let k = number_at(d.chosen.as_slice(), e);
-    if k >= d.rules.len() {
-        return None;
-    }
-    last_value(d.rules[k].lines.as_slice(), name)
-}
-
-// A value of an edge: its block's own, or what its rule's line stands for, or nothing.
-fn value_for(
-    heap: Global,
-    d: &Draft,
+// An edge, with what `in` and `out` stand for in the values of its rule.
+#[derive(Drop)]
+struct Ruled<'d, 'a> {
+    draft: &'d Draft<'a>,
     e: usize,
-    name: &[u8],
-    ins: &[u8],
-    outs: &[u8],
-) -> Result<Vec<u8>, Stop>
-    requires ins_value { ins.now ≡ in_text (state_of d.now).files (edge_at (state_of d.now).edges e) }
-    requires outs_value { outs.now ≡ out_text (state_of d.now).files (edge_at (state_of d.now).edges e) }
-    ensures { Gives vec_items result (value_for (state_of d.now) e name.now) }
-{
-    if let Some(own) = d.texts.block_value(e, name) {
-        return Ok(own.to_vec(heap)?);
+    ins: Vec<u8>,
+    outs: Vec<u8>,
+    ghost ins_value: { ins.items ≡ in_text (state_of draft.now).files (edge_at (state_of draft.now).edges e) },
+    ghost outs_value: { outs.items ≡ out_text (state_of draft.now).files (edge_at (state_of draft.now).edges e) },
+}
+
+impl<'d, 'a> Ruled<'d, 'a> {
+    // The last line of the rule that sets a name.
+    fn line(&self, name: &[u8]) -> Option<&'a [u8]>
+        ensures { maybe (λ x. x.now) result ≡ last_of (rule_of (state_of self.now.draft.now) self.now.e).lines name.now }
+    {
+        let k = self.draft.chosen.get(self.e).copied().unwrap_or(0);
+        self.draft
+            .rules
+            .get(k)
+            .and_then(|rule| last_value(&rule.lines, name))
     }
-    let mut out = Vec::new(heap);
-    if let Some(v) = rule_line(d, e, name) {
-        d.texts.rule_value(e, ins, outs, v, &mut out)?;
+
+    // A value: the one of the edge's block, or what the rule's line stands for, or nothing.
+    fn value(&self, heap: Global, name: &[u8]) -> Result<Vec<u8>, Stop>
+        ensures { Gives vec_items result (value_for (state_of self.now.draft.now) self.now.e name.now) }
+    {
+        let texts = &self.draft.known.texts;
+        if let Some(own) = texts.block_value(self.e, name) {
+            return Ok(own.to_vec(heap)?);
+        }
+        let mut out = Vec::new(heap);
+        if let Some(v) = self.line(name) {
+            texts.rule_value(self.e, &self.ins, &self.outs, v, &mut out)?;
+        }
+        Ok(out)
     }
-    Ok(out)
 }
 
 // The pool that a text names; the empty text names none.
@@ -67,10 +63,8 @@ fn pool_named(pools: &[Pool], name: &[u8]) -> Result<Option<usize>, Stop>
     if name.is_empty() {
         return Ok(None);
     }
-    match place_of(pools, name) {
-        Some(k) => Ok(Some(k)),
-        None => Err(Stop::Because(Wrong::Unknown)),
-    }
+    let k = place_of(pools, name).ok_or(Wrong::Unknown)?;
+    Ok(Some(k))
 }
 
 // All values of an edge, in the order in which they are expanded.
@@ -78,13 +72,17 @@ fn values_of(heap: Global, d: &Draft, e: usize) -> Result<Values, Stop>
     requires { e < length (state_of d.now).edges }
     ensures { Gives values_of result (values_for (state_of d.now) e) }
 {
-    let ins = in_text(heap, d.files.as_slice(), &d.edges[e])?;
-    let outs = out_text(heap, d.files.as_slice(), &d.edges[e])?;
-    let command = value_for(heap, d, e, b"command", &ins, &outs)?;
-    let description = value_for(heap, d, e, b"description", &ins, &outs)?;
-    let pool = value_for(heap, d, e, b"pool", &ins, &outs)?;
-    let restat = value_for(heap, d, e, b"restat", &ins, &outs)?;
-    let pool = pool_named(d.pools.as_slice(), &pool)?;
+    let edge = Ruled {
+        draft: d,
+        e,
+        ins: in_text(heap, &d.known.files, &d.edges[e])?,
+        outs: out_text(heap, &d.known.files, &d.edges[e])?,
+    };
+    let command = edge.value(heap, b"command")?;
+    let description = edge.value(heap, b"description")?;
+    let pool = edge.value(heap, b"pool")?;
+    let restat = edge.value(heap, b"restat")?;
+    let pool = pool_named(&d.pools, &pool)?;
     Ok(Values {
         command,
         description,
@@ -94,27 +92,18 @@ fn values_of(heap: Global, d: &Draft, e: usize) -> Result<Values, Stop>
 }
 
 // Gives an edge its values; in place of its question stands its command, for now.
-fn set_values(edge: &mut Edge, v: Values)
-    ensures { edge_of edge.new ≡ with_values (edge_of edge.old) (values_of v).command (values_of v).description (values_of v).pool (values_of v).restat }
-{
-    let Values {
-        command,
-        description,
-        pool,
-        restat,
-    } = v;
-    edge.question = command;
-    edge.description = description;
-    edge.pool = pool;
-    edge.restat = restat;
-}
+pub(crate) struct Valuing;
 
-// Gives the edge e its values.
-pub(crate) fn give_values(heap: Global, d: &mut Draft, e: usize) -> Result<(), Stop>
-    requires { e < length (state_of d.old).edges }
-    ensures { Gives (λ _. state_of d.new) result (valued (state_of d.old) e) }
-{
-    let v = values_of(heap, d, e)?;
-    set_values(&mut d.edges[e], v);
-    Ok(())
+impl Step for Valuing {
+    ghost step = { valued };
+
+    fn take(d: &mut Draft, e: usize) -> Result<(), Stop> {
+        let v = values_of(*d.edges.allocator(), d, e)?;
+        let edge = &mut d.edges[e];
+        edge.question = v.command;
+        edge.description = v.description;
+        edge.pool = v.pool;
+        edge.restat = v.restat;
+        Ok(())
+    }
 }

@@ -17,6 +17,7 @@ pub enum Fault {
     Meaning(Wrong, Place),
 }
 
+// Its conversions stand below: one error type over each fault's type would need the same three.
 #[derive(Clone, Copy)]
 pub enum Refusal {
     Faulty(Fault),

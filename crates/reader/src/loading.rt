@@ -8,12 +8,15 @@ ghost use Rattle.reader.specs.Load.{finish, load_of};
 ghost use Rattle.reader.specs.Told.{Tells};
 ghost use Rattle.reader.specs.Loads.{pieces_of, whole_of, Loads, Meant, Round};
 
-use crate::edges::{ask_all, value_all};
+use crate::edge_values::Valuing;
+use crate::edges::each_edge;
 use crate::fault::{Fault, Refusal};
 use crate::pieces::Pieces;
+use crate::questions::Asking;
 use crate::reading::read;
 use draft::Draft;
-use graph::{Graph, Ranking, order};
+use graph::{Graph, Unranked, order};
+use lists::Known;
 use std::alloc::Global;
 use store::{Store, Wrong};
 
@@ -22,33 +25,25 @@ fn complete(heap: Global, draft: Draft) -> Result<Pieces, Refusal>
     ensures { Tells pieces_of result (finish (state_of draft.entry)) }
 {
     let mut d = draft;
-    match order(heap, d.files.as_slice(), d.edges.as_slice())? {
-        Ranking::Circle(c) => {
+    // a circle gets the place of its edge, so that no `From` can stand for this
+    let ranks = match order(heap, &d.known.files, &d.edges) {
+        Ok(ranks) => ranks,
+        Err(Unranked::Circle(c)) => {
             let place = d.edges[c].place;
-            Err(Refusal::Faulty(Fault::Meaning(Wrong::Circle, place)))
+            return Err(Refusal::Faulty(Fault::Meaning(Wrong::Circle, place)));
         }
-        Ranking::Ranks(ranks) => {
-            value_all(heap, &mut d)?;
-            ask_all(heap, &mut d)?;
-            let Draft {
-                texts,
-                rules,
-                pools,
-                files,
-                edges,
-                chosen,
-            } = d;
-            drop(rules);
-            drop(chosen);
-            Ok(Pieces {
-                files,
-                edges,
-                pools,
-                ranks,
-                store: texts.into_store(),
-            })
-        }
-    }
+        Err(Unranked::Memory) => return Err(Refusal::Memory),
+    };
+    each_edge::<Valuing>(&mut d)?;
+    each_edge::<Asking>(&mut d)?;
+    let Known { texts, files } = d.known;
+    Ok(Pieces {
+        files,
+        edges: d.edges,
+        pools: d.pools,
+        ranks,
+        store: texts.into_store(),
+    })
 }
 
 // The graph and the store of a text.

@@ -6,6 +6,7 @@ use crate::fault::Fault;
 use cursor::Place;
 use store::Wrong;
 
+// People know these numbers, and they follow no order of the variants.
 fn wrong_number(w: Wrong) -> u8
     ensures { result ≡ wrong_number w }
 {

@@ -9,41 +9,30 @@ ghost use Rattle.reader.specs.Told.{Puts, Makes, Asks};
 use graph::{Edge, File};
 use std::alloc::{AllocError, Global};
 
-// The path of a file.
-fn path_of(f: &File) -> &[u8]
-    ensures { result.now ≡ (file_of f.now).path }
-{
-    f.path.as_slice()
-}
-
 // Puts the path of a file; there is none for a number that no file has.
 fn put_path(out: &mut Vec<u8>, files: &[File], f: usize) -> Result<(), AllocError>
     ensures { Puts result out.old out.new (path_at (map file_of files.now) f) }
 {
-    if f >= files.len() {
-        return Ok(());
-    }
-    out.extend_from_slice(path_of(&files[f]))
-}
-
-// Puts the paths of files, each with a space before it.
-fn put_behind(out: &mut Vec<u8>, files: &[File], ns: &[usize]) -> Result<(), AllocError>
-    ensures { Puts result out.old out.new (flat_map (λ q. 32 ∷ q) (paths_at (map file_of files.now) ns.now)) }
-{
-    for n in ns {
-        out.push(b' ')?;
-        put_path(out, files, *n)?;
+    if let Some(file) = files.get(f) {
+        out.extend_from_slice(&file.path)?;
     }
     Ok(())
 }
 
-// Puts the paths of files, each with a byte 0 after it.
-fn put_ended(out: &mut Vec<u8>, files: &[File], ns: &[usize]) -> Result<(), AllocError>
-    ensures { Puts result out.old out.new (flat_map (λ p. p ++ 0 ∷ []) (paths_at (map file_of files.now) ns.now)) }
+// Puts the paths of files, each between two texts.
+fn put_each(
+    out: &mut Vec<u8>,
+    files: &[File],
+    ns: &[usize],
+    before: &[u8],
+    after: &[u8],
+) -> Result<(), AllocError>
+    ensures { Puts result out.old out.new (flat_map (λ p. before.now ++ (p ++ after.now)) (paths_at (map file_of files.now) ns.now)) }
 {
     for n in ns {
+        out.extend_from_slice(before)?;
         put_path(out, files, *n)?;
-        out.push(0)?;
+        out.extend_from_slice(after)?;
     }
     Ok(())
 }
@@ -56,19 +45,9 @@ fn put_spaced(out: &mut Vec<u8>, files: &[File], ns: &[usize]) -> Result<(), All
         [] => Ok(()),
         [first, rest @ ..] => {
             put_path(out, files, *first)?;
-            put_behind(out, files, rest)
+            put_each(out, files, rest, b" ", b"")
         }
     }
-}
-
-// The first n numbers of a list, or all of them.
-fn front(ns: &[usize], n: usize) -> &[usize]
-    ensures { result.now ≡ take n ns.now }
-{
-    if n >= ns.len() {
-        return ns;
-    }
-    &ns[0..n]
 }
 
 // The first n of some files, with a space between each two.
@@ -76,7 +55,7 @@ fn joined(heap: Global, files: &[File], ns: &[usize], n: usize) -> Result<Vec<u8
     ensures { Makes result (spaced (paths_at (map file_of files.now) (take n ns.now))) }
 {
     let mut out = Vec::new(heap);
-    put_spaced(&mut out, files, front(ns, n))?;
+    put_spaced(&mut out, files, &ns[..n.min(ns.len())])?;
     Ok(out)
 }
 
@@ -84,14 +63,14 @@ fn joined(heap: Global, files: &[File], ns: &[usize], n: usize) -> Result<Vec<u8
 pub(crate) fn in_text(heap: Global, files: &[File], e: &Edge) -> Result<Vec<u8>, AllocError>
     ensures { Makes result (in_text (map file_of files.now) (edge_of e.now)) }
 {
-    joined(heap, files, e.reads.as_slice(), e.explicit_reads)
+    joined(heap, files, &e.reads, e.explicit_reads)
 }
 
 // What `out` stands for at an edge.
 pub(crate) fn out_text(heap: Global, files: &[File], e: &Edge) -> Result<Vec<u8>, AllocError>
     ensures { Makes result (out_text (map file_of files.now) (edge_of e.now)) }
 {
-    joined(heap, files, e.outputs.as_slice(), e.explicit_outputs)
+    joined(heap, files, &e.outputs, e.explicit_outputs)
 }
 
 // Makes the question of a command that reads and makes files.
@@ -104,7 +83,7 @@ pub(crate) fn put_question(
     ensures { Asks result out.old out.new (paths_at (map file_of files.now) reads.now) (paths_at (map file_of files.now) outputs.now) }
 {
     out.push(0)?;
-    put_ended(out, files, reads)?;
+    put_each(out, files, reads, b"", b"\0")?;
     out.push(0)?;
-    put_ended(out, files, outputs)
+    put_each(out, files, outputs, b"", b"\0")
 }

@@ -19,10 +19,7 @@ fn add_at<'a>(heap: Global, d: &mut Draft<'a>, x: Statement<'a>) -> Result<(), R
     ensures { Tells (λ _. state_of d.new) result (at (stated_of x.entry).place (add (state_of d.old) (stated_of x.entry))) }
 {
     let place = x.place;
-    match d.add(heap, x) {
-        Ok(()) => Ok(()),
-        Err(s) => Err(stopped(s, place)),
-    }
+    d.add(heap, x).map_err(|s| stopped(s, place))
 }
 
 // Reads and adds all statements that are left.

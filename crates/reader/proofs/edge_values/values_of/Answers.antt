@@ -28,10 +28,10 @@ returns-in_err-pool-2 c =
     let d = c.args.d.now in
     rw (p.1, p.2)
     (values_fifth (state_of d) c.args.e _ (vec_items c.in_ok-command.command) (vec_items c.in_ok-description.description) (vec_items c.in_ok-pool.pool) (vec_items c.in_ok-restat.restat) c.in_ok-command.ensures c.in_ok-description.ensures c.in_ok-pool.ensures c.in_ok-restat.ensures
-    _ (named_seen (vec_items d.pools) c.as_slice-3.result.now (vec_items c.in_ok-pool.pool) c.deref-9.result.now c.as_slice-3.ensures.value c.deref-9.ensures.value) c.in_err-pool-2.ensures)
+    _ (named_seen (vec_items d.pools) c.deref-3.result.now (vec_items c.in_ok-pool.pool) c.deref-4.result.now c.deref-3.ensures.value c.deref-4.ensures.value) c.in_err-pool-2.ensures)
 
 pub returns : goal.returns
 returns c =
     values_all (state_of c.args.d.now) c.args.e (vec_items c.in_ok-command.command) (vec_items c.in_ok-description.description) (vec_items c.in_ok-pool.pool) (vec_items c.in_ok-restat.restat) c.in_ok-pool-2.pool (not c.is_empty.result) c.in_ok-command.ensures c.in_ok-description.ensures c.in_ok-pool.ensures c.in_ok-restat.ensures
-    (c.in_ok-pool-2.ensures ∙ named_seen (vec_items c.args.d.now.pools) c.as_slice-3.result.now (vec_items c.in_ok-pool.pool) c.deref-9.result.now c.as_slice-3.ensures.value c.deref-9.ensures.value)
+    (c.in_ok-pool-2.ensures ∙ named_seen (vec_items c.args.d.now.pools) c.deref-3.result.now (vec_items c.in_ok-pool.pool) c.deref-4.result.now c.deref-3.ensures.value c.deref-4.ensures.value)
     (given_is (vec_items c.in_ok-restat.restat) c.is_empty.result (c.is_empty.ensures ∙ ap (λ n. n == 0) c.in_ok-restat.restat.ok.0))
