@@ -1,8 +1,7 @@
 // A host: files that can be told, a clock, commands that are started and come to an end in the host's own order.
 #![tactic(auto)]
 
-ghost use Rattle.std.specs.Prelude.{◌≡◌, ℕ, ◌+◌, ◌*◌, ◌<◌, ◌≤◌, Bool, true, false, List, [], ◌∷◌, length, is_ok, Some, Option, MatchOption};
-ghost use Rattle.host.specs.declared.Stamped.{Stamped};
+ghost use Rattle.std.specs.Prelude.{◌≡◌, ℕ, ◌<◌, ◌≤◌, false, List, [], length, is_ok, Some, MatchOption};
 ghost use Rattle.host.specs.State.{State, Files, Lawful};
 ghost use Rattle.host.specs.Calls.{Makes, start_answer, after_start, write_answer, after_write, Polls, BreaksOff};
 ghost use Rattle.host.specs.Refusals.{number_of, tell_answer};

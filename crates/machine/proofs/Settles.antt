@@ -18,10 +18,10 @@ settle_next b v u outs ms i p q e =
     ∙ subst₂ (λ (os ns : List ℕ). all_settled b (settled b v (get_or outs i 0) (get_or ms i 0)) (drop (i + 1) outs) (drop (i + 1) ms) ≡ all_settled b v os ns) (sym (drop_more outs i 0 p)) (sym (drop_more ms i 0 q)) refl
 
 -- the output at i gets its mark
-pub settle_more : (b : Bool) (v u : Volume) (outs : List ℕ) (h i : ℕ) → i < length outs → u ≡ settled b v (get_or outs i 0) (fnv_step h i) → all_settled b u (drop (i + 1) outs) (drop (i + 1) (marks_from (length outs) h)) ≡ all_settled b v (drop i outs) (drop i (marks_from (length outs) h))
-settle_more b v u outs h i l e =
-    settle_next b v u outs (marks_from (length outs) h) i l (omega (arith, length_marks (length outs) h))
-    (e ∙ ap (settled b v (get_or outs i 0)) (sym (marks_at (length outs) h i l)))
+pub settle_more : (b : Bool) (v : Volume) (outs : List ℕ) (h i : ℕ) → i < length outs → all_settled b (settled b v (get_or outs i 0) (fnv_step h i)) (drop (i + 1) outs) (drop (i + 1) (marks_from (length outs) h)) ≡ all_settled b v (drop i outs) (drop i (marks_from (length outs) h))
+settle_more b v outs h i l =
+    settle_next b v _ outs (marks_from (length outs) h) i l (omega (arith, length_marks (length outs) h))
+    (ap (settled b v (get_or outs i 0)) (sym (marks_at (length outs) h i l)))
 
 -- no output is left
 pub settle_all : (b : Bool) (v : Volume) (outs ms : List ℕ) (i : ℕ) → length outs ≤ i → all_settled b v (drop i outs) ms ≡ v

@@ -1,12 +1,12 @@
 // The calls of a machine: what both hosts do alike.
-ghost use Rattle.std.specs.Prelude.{◌≡◌, ℕ, ◌+◌, ◌*◌, ◌<◌, ◌≤◌, min, Bool, true, false, cond, List, [], ◌∷◌, length, is_some, is_ok, IfOk, Some, None, Ok, vec_len, MatchOption, MatchResult};
-ghost use Rattle.host.specs.State.{pends, edge_at};
+ghost use Rattle.std.specs.Prelude.{◌≡◌, ◌+◌, ◌<◌, ◌≤◌, min, false, length, is_some, is_ok, IfOk, Some, None, Ok, vec_len, MatchOption, MatchResult};
 ghost use Rattle.host.specs.Calls.{command_of, started, written, start_answer, after_start, write_answer, after_write, Ends, BreaksOff};
 ghost use Rattle.host.specs.Refusals.{bad_start, start_refusal, tell_answer};
 ghost use Rattle.machine.specs.Fnv.{hashes};
 ghost use Rattle.machine.specs.Ends.{edge_here, place_of, ending, ending_at, finished, finished_at, break_answer, broken, broken_at, broken_by};
 ghost use Rattle.machine.specs.Machines.{state_of, capacity_of, fresh};
 
+use crate::checks::LAST_FILE;
 use crate::command::{MOST_OUTPUTS, Pending};
 use crate::disk::Disk;
 use crate::machine::Machine;
@@ -27,6 +27,7 @@ const MOST_READS: usize = 64;
 
 impl Machine {
     // No files, clock 0, nothing pending; at most 64 commands may be.
+    // Each caller gives its capacity as the program runs, so no type can carry it, and each call says that it stays the same.
     pub fn new(heap: Global, capacity: usize) -> Result<Machine, AllocError>
         ensures fresh { IfOk result (λ m. state_of m ≡ fresh) }
         ensures capacity { IfOk result (λ m. capacity_of m ≡ min capacity 64) }
@@ -238,5 +239,3 @@ impl Machine {
         self.disk.clock
     }
 }
-
-const LAST_FILE: usize = 255;

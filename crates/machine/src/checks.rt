@@ -7,6 +7,8 @@ ghost use Rattle.machine.specs.Ends.{edge_in, place_from};
 
 use crate::command::Pending;
 
+pub(crate) const LAST_FILE: usize = 255;
+
 // The place of the edge's command.
 pub(crate) fn place_in(pending: &[Pending], edge: usize) -> Option<usize>
     ensures { result ≡ place_from 0 (map told pending.now) edge }
@@ -32,19 +34,15 @@ pub(crate) fn is_pending(pending: &[Pending], edge: usize) -> bool
 pub(crate) fn has_stray(files: &[usize]) -> bool
     ensures { result ≡ strays files.now }
 {
-    files.iter().any(|file| *file > 255)
+    files.iter().any(|file| *file > LAST_FILE)
 }
 
 // Whether a file stands there twice.
 pub(crate) fn has_repeat(files: &[usize]) -> bool
     ensures { result ≡ repeats files.now }
 {
-    let mut rest = files;
-    while let Some((file, later)) = rest.split_first() {
-        if later.contains(file) {
-            return true;
-        }
-        rest = later;
-    }
-    false
+    files
+        .iter()
+        .enumerate()
+        .any(|(place, file)| files[place + 1..].contains(file))
 }

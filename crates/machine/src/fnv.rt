@@ -1,5 +1,5 @@
 // 32-bit FNV-1a.
-ghost use Rattle.std.specs.Prelude.{◌≡◌, ℕ, ◌+◌, ◌<◌, Bool, List, length};
+ghost use Rattle.std.specs.Prelude.{◌≡◌, length};
 ghost use Rattle.machine.specs.Fnv.{fnv_step, fnv_more, fnv_1a, fails, command_text};
 
 const OFFSET: u32 = 2_166_136_261;

@@ -1,5 +1,5 @@
 // What a question comes to on the present marks of its reads.
-ghost use Rattle.std.specs.Prelude.{◌≡◌, ℕ, ◌+◌, ◌<◌, Bool, true, false, List, Option};
+ghost use Rattle.std.specs.Prelude.{◌≡◌};
 ghost use Rattle.machine.specs.Outcomes.{hash_of, hash_from, hash_by};
 ghost use Rattle.host.specs.State.{at};
 

@@ -1,19 +1,20 @@
 // What ends of commands and outside writes do to a disk.
-ghost use Rattle.std.specs.Prelude.{◌≡◌, ℕ, ◌+◌, ◌<◌, ◌≤◌, Bool, true, false, List, length, replicate, IfOk, None, vec_len, slice_index, slice_index_or, slice_set};
+ghost use Rattle.std.specs.Prelude.{◌≡◌, ◌+◌, ◌<◌, ◌≤◌, length, replicate, IfOk, None, slice_index_or, slice_set};
 ghost use Rattle.host.specs.State.{at};
 ghost use Rattle.host.specs.Refusals.{tell_answer};
 ghost use Rattle.host.specs.Calls.{placed};
-ghost use Rattle.machine.specs.Ends.{Volume, settled, all_settled, all_removed, has, left_by};
+ghost use Rattle.machine.specs.Ends.{settled, all_settled, all_removed, has, left_by};
 ghost use Rattle.machine.specs.Pendings.{marks_from, told};
 ghost use Rattle.machine.specs.Disks.{volume};
 
+use crate::checks::LAST_FILE;
 use crate::command::Pending;
 use crate::disk::Disk;
 use crate::fnv;
 use host::{Refusal, Stamped};
 use std::alloc::{AllocError, Global};
 
-const FILES: usize = 256;
+const FILES: usize = LAST_FILE + 1;
 
 impl Disk {
     // No files, clock 0.
@@ -86,6 +87,7 @@ impl Disk {
     }
 
     // The marks of a hash come into the outputs, in their order.
+    #[tactic(auto, using(crate::proofs::Settles::settle_more, crate::proofs::Settles::settle_all))]
     pub(crate) fn settle_all(&mut self, outputs: &[u8], hash: u32, rewrites: bool)
         requires few { length outputs.now ≤ 8 }
         requires clock { self.old.clock ≤ 4000000513 }

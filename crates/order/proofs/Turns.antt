@@ -1,4 +1,4 @@
--- The earliest of a list: that it is the least of the records with their places, and the law that it keeps.
+-- The earliest of a list is the least of its records with their places.
 use Rattle.std.proofs.Common.{◌≡◌, ℕ, zero, suc, ◌+◌, ◌<◌, true, false, cond, ltb, eqb, List, [], ◌∷◌, length, get_or, Some, sym, refl, ap, ◌∙◌, subst, inl, inr, arith, below_more}
 use Rattle.std.proofs.lemmas.List.{drop_more, drop_all, get_or_default}
 use Rattle.std.proofs.lemmas.Bool.{cases_Bool, cases_lt, both_ways, cond-true, cond-false, lt-ltb}
@@ -7,7 +7,7 @@ use Rattle.std.specs.Cmp.{IsTotalOrder}
 use Rattle.std.specs.Ordering.{is_lt, is_gt, ordering_reverse, ordering_then, nat_cmp}
 use Rattle.std.specs.declared.cmp.Ordering.{Ordering}
 use Rattle.std.specs.declared.cmp.Ordering.TheVariants.{Less, Equal, Greater}
-use Rattle.order.specs.Earliest.{earliest_from, earliest_place, Earliest, SoFar, TellsApart, comes_before, stands_before}
+use Rattle.order.specs.Earliest.{earliest_from, earliest_place, SoFar, comes_before, stands_before}
 
 -- the laws of `comes_before`, from those of the order
 module _ {X : Type 0} (cmp : X → X → Ordering) (o : IsTotalOrder cmp) where
@@ -37,16 +37,6 @@ module _ {X : Type 0} (cmp : X → X → Ordering) (o : IsTotalOrder cmp) where
     | inl a ↦ a
     | inr b ↦ absurd (both_ways (comes_before cmp x y) (steps x z y b q) p)
   ]
-
-  same : TellsApart cmp → (x y : X) → comes_before cmp x y ≡ false → comes_before cmp y x ≡ false → x ≡ y
-  same apart x y p q = apart x y (tied (cmp x y) p (sym (before_turned y x) ∙ q)) where
-    tied : (r : Ordering) → is_lt r ≡ false → is_gt r ≡ false → r ≡ Equal
-    tied Less a b = absurd (both_ways true a refl)
-    tied Equal a b = refl
-    tied Greater a b = absurd (both_ways true b refl)
-
-  some_is : (a b : ℕ) → Some a ≡ Some b → a ≡ b
-  some_is a b e = cc
 
   so_far_one : (x : X) (xs : List X) → SoFar (comes_before cmp) (x ∷ xs) 1 0
   so_far_one x xs = record {
@@ -123,16 +113,3 @@ module _ {X : Type 0} (cmp : X → X → Ordering) (o : IsTotalOrder cmp) where
 
         lower : (a b : ℕ) → a < b → nat_cmp a b ≡ Less
         lower a b h = cond-true (ltb a b) Less (cond (eqb a b) Equal Greater) (lt-ltb a b h)
-
-  -- the law of the earliest
-  pub earliest_law : TellsApart cmp → (xs : List X) (k : ℕ) → Some k ≡ earliest_place (comes_before cmp) xs → Earliest (comes_before cmp) xs k
-  earliest_law apart [] k e = absurd (cc)
-  earliest_law apart (x ∷ xs) k e =
-      let s = found x xs in
-      let h = s.1 in
-      subst (Earliest (comes_before cmp) (x ∷ xs)) (some_is s.0 k (s.2 ∙ sym e)) (record {
-        within = h.within;
-        unpreceded = h.unpreceded;
-        only = λ j d z b. same apart _ _ (h.unpreceded j d z) b;
-        first = h.first;
-      })
