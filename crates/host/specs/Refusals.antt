@@ -1,5 +1,6 @@
 -- The refusals of a host and their numbers, and which call is refused with which. Assumes nothing.
 use Rattle.std.specs.Prelude.{ℕ, ◌+◌, Bool, false, cond, ◌||◌, List, [], ◌∷◌, length, Some, None, Ok, Err, Option, Result, ◌==◌, nat_le, nat_lt}
+use Rattle.std.specs.List.{list_any}
 use Rattle.host.specs.declared.Refusal.{Refusal}
 use Rattle.host.specs.declared.Refusal.TheVariants.{Busy, ClockSpent, BadCall}
 use Rattle.host.specs.declared.Stamped.{Stamped}
@@ -13,8 +14,7 @@ number_of BadCall = 28
 
 -- whether a number stands in a list
 abbrev pub holds_number : List ℕ → ℕ → Bool
-holds_number [] f = false
-holds_number (g ∷ fs) f = g == f || holds_number fs f
+holds_number fs f = list_any (λ g. g == f) fs
 
 -- whether a list has a number twice
 abbrev pub repeats : List ℕ → Bool
@@ -23,8 +23,7 @@ repeats (f ∷ fs) = holds_number fs f || repeats fs
 
 -- whether a list names a file above 255
 abbrev pub strays : List ℕ → Bool
-strays [] = false
-strays (f ∷ fs) = nat_lt 255 f || strays fs
+strays fs = list_any (λ f. nat_lt 255 f) fs
 
 -- whether a start is no lawful call: its edge above 127 or pending, a question over 1,024 bytes, over 64 reads, no outputs, over 8
 -- or equal ones, a file above 255

@@ -1,5 +1,6 @@
 -- What a host means: its files, its clock, its pending commands; and what holds of them at every moment. Assumes nothing.
-use Rattle.std.specs.Prelude.{◌≡◌, ℕ, ◌+◌, ◌*◌, ◌<◌, ◌≤◌, Bool, false, ◌||◌, List, [], ◌∷◌, length, Some, None, Option, ◌==◌, ◌≢◌, slice_index_or}
+use Rattle.std.specs.Prelude.{◌≡◌, ℕ, ◌+◌, ◌*◌, ◌<◌, ◌≤◌, Bool, List, [], length, Some, None, Option, ◌==◌, ◌≢◌, slice_index_or}
+use Rattle.std.specs.List.{list_any}
 use Rattle.host.specs.declared.Stamped.{Stamped}
 
 -- the files by number: absent, or a stamp and a mark
@@ -24,8 +25,7 @@ at fs f = slice_index_or fs f None
 
 -- whether a command of this edge is pending
 abbrev pub pends : List Command → ℕ → Bool
-pends [] e = false
-pends (c ∷ cs) e = c.edge == e || pends cs e
+pends cs e = list_any (λ (c : Command). c.edge == e) cs
 
 -- what a read past the end of the pending commands gives
 abbrev pub no_command : Command

@@ -8,6 +8,9 @@ ghost use Rattle.host.specs.Calls.{Makes, start_answer, after_start, write_answe
 ghost use Rattle.host.specs.Refusals.{number_of, tell_answer};
 ghost use Rattle.host.specs.Steps.{BreaksBelow, Later, UnwrittenKept};
 
+// Edges are numbered from 0 and are at most this many.
+pub const EDGES: usize = 128;
+
 // A file that is present: when it was written last, and what it contains, as a number.
 #[derive(Clone, Copy, PartialEq, Eq, Debug)]
 pub struct Stamped {
@@ -31,12 +34,12 @@ pub struct Job<'a> {
     pub outputs: &'a [usize],
 }
 
-// Why a host refuses a call.
+// Why a host refuses a call, with the number by which each refusal is known.
 #[derive(Clone, Copy, PartialEq, Eq, Debug)]
 pub enum Refusal {
-    Busy,
-    ClockSpent,
-    BadCall,
+    Busy = 26,
+    ClockSpent = 27,
+    BadCall = 28,
 }
 
 impl Refusal {
@@ -44,11 +47,7 @@ impl Refusal {
     pub fn number(self) -> u32
         ensures { result ≡ number_of self }
     {
-        match self {
-            Refusal::Busy => 26,
-            Refusal::ClockSpent => 27,
-            Refusal::BadCall => 28,
-        }
+        self as u32
     }
 }
 
@@ -117,6 +116,3 @@ pub fn break_off_all<B: Host>(host: &mut B)
         let _ = host.break_off(edge);
     }
 }
-
-// Edges are numbered from 0 and are at most this many.
-pub const EDGES: usize = 128;

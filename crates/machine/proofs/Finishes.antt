@@ -11,10 +11,10 @@ use Rattle.host.specs.Calls.{Holds, Wrote, AllWrote, AllRuined, Leaves, Ends, Br
 use Rattle.host.proofs.Pends.{map_removed}
 use Rattle.host.proofs.Keeps.{held, stamps_set, stamps_gone, lawful_cut}
 use Rattle.machine.specs.declared.command.Pending.{Pending}
-use Rattle.machine.specs.Ends.{Volume, has, settled, all_settled, all_removed, left_by, volume_of, without, finished, broken_at, ending, place_of, edge_in, finished_at, ending_at}
-use Rattle.machine.specs.Pendings.{told, named, marks_from, state_from}
+use Rattle.machine.specs.Ends.{Volume, has, settled, all_settled, all_removed, left_by, volume_of, without, finished, broken_at, ending, place_of, finished_at, ending_at}
+use Rattle.machine.specs.Pendings.{told, marks_from, state_from}
 use Rattle.machine.proofs.Places.{place_from_some, place_from_found}
-use Rattle.machine.proofs.Settles.{length_named, length_marks}
+use Rattle.machine.proofs.Settles.{length_marks}
 
 -- a volume in order, with a clock that has risen by at most n
 pub record Fine (v : Volume) (n : ℕ) (u : Volume) : Type 0 where
@@ -73,16 +73,11 @@ all_removed_ruined fs t (f ∷ outs) = (set fs f None, t, inr (inl (refl, refl))
 pub told_at : (ps : List Pending) (k : ℕ) (p : Pending) → k < length ps → p ≡ get_or ps k p → get_or (map told ps) k no_command ≡ told p
 told_at ps k p l e = get_or-map told ps k p no_command l ∙ ap told (sym e)
 
-pub edge_is : (ps : List Pending) (k : ℕ) (p : Pending) → k < length ps → p ≡ get_or ps k p → Some (get_or ps k p).edge ≡ edge_in (map told ps) k
-edge_is ps k p l e =
-    ap (λ (q : Pending). Some q.edge) (sym e) ∙ ap (λ (c : Command). Some c.edge) (sym (told_at ps k p l e))
-    ∙ sym (cond-true (ltb k (length (map told ps))) (Some (get_or (map told ps) k no_command).edge) None (lt-ltb k (length (map told ps)) (omega (arith, length-map ps told))))
-
 leaves_told : (b : Bool) (s : State) (p : Pending) (k : ℕ) → Leaves s (told p).outputs (told p).outcome (without s k (left_by b (volume_of s) (told p).outputs (told p).outcome))
 leaves_told b s p k = go p.hash where
-  go : (h : Option ℕ) → Leaves s (named p.outputs) (option_map (marks_from p.outputs.count) h) (without s k (left_by b (volume_of s) (named p.outputs) (option_map (marks_from p.outputs.count) h)))
-  go None = all_removed_ruined s.files s.clock (named p.outputs)
-  go (Some h) = all_settled_wrote b (volume_of s) (named p.outputs) (marks_from p.outputs.count h) (length_marks p.outputs.count h ∙ sym (length_named p.outputs))
+  go : (h : Option ℕ) → Leaves s p.outputs.items (option_map (marks_from (length p.outputs.items)) h) (without s k (left_by b (volume_of s) p.outputs.items (option_map (marks_from (length p.outputs.items)) h)))
+  go None = all_removed_ruined s.files s.clock p.outputs.items
+  go (Some h) = all_settled_wrote b (volume_of s) p.outputs.items (marks_from (length p.outputs.items) h) (length_marks (length p.outputs.items) h)
 
 -- the command at a place ends as a poll may end it
 pub finished_ends : (b : Bool) (fs : Files) (t : ℕ) (ps : List Pending) (k : ℕ) (p : Pending) → k < length ps → p ≡ get_or ps k p → Ends (state_from fs t ps) (ending (state_from fs t ps) k) (finished b (state_from fs t ps) k)
@@ -110,7 +105,7 @@ ending_told fs t ps k p g l e is =
       edge = ap (λ (c : Command). c.edge) (sym at) i;
       good = (is ∙ some p.hash ∙ ap (λ (c : Command). is_some c.outcome) (sym at)) i;
     } where
-      some : (h : Option ℕ) → is_some h ≡ is_some (option_map (marks_from p.outputs.count) h)
+      some : (h : Option ℕ) → is_some h ≡ is_some (option_map (marks_from (length p.outputs.items)) h)
       some None = refl
       some (Some h) = refl
 
@@ -129,17 +124,17 @@ drop_state v u ps ps' k p l is e left =
     left_state v u ps ps' k e ∙ ap (without s k) left ∙ ap (λ (c : Command). without s k (left_by false v c.outputs None)) (sym (told_at ps k p l is))
 
 -- it is lawful
-pub left_lawful : (n : ℕ) (b : Bool) (v u : Volume) (ps ps' : List Pending) (k : ℕ) (p : Pending) (o : Option (List ℕ)) → k < length ps → ps' ≡ remove ps k → u ≡ left_by b v (named p.outputs) o → ∥ Lawful n (state_from v.files v.clock ps) ∥₁ → ∥ Lawful n (state_from u.files u.clock ps') ∥₁
+pub left_lawful : (n : ℕ) (b : Bool) (v u : Volume) (ps ps' : List Pending) (k : ℕ) (p : Pending) (o : Option (List ℕ)) → k < length ps → ps' ≡ remove ps k → u ≡ left_by b v p.outputs.items o → ∥ Lawful n (state_from v.files v.clock ps) ∥₁ → ∥ Lawful n (state_from u.files u.clock ps') ∥₁
 left_lawful n b v u ps ps' k p o l e left ok =
     let s = state_from v.files v.clock ps in
     let law = held ok in
-    let fine : Fine v (length (named p.outputs)) u = subst (Fine v (length (named p.outputs))) (sym left) (left_fine b v (named p.outputs) o law.stamps) in
-    ∣ subst (Lawful n) (sym (left_state v u ps ps' k e)) (lawful_cut n s k u.files u.clock law (omega (arith, length-map ps told)) (fine.count ∙ law.count) fine.stamps (omega (arith, fine.clock, length_named p.outputs, p.outputs.few))) ∣₁
+    let fine : Fine v (length p.outputs.items) u = subst (Fine v (length p.outputs.items)) (sym left) (left_fine b v p.outputs.items o law.stamps) in
+    ∣ subst (Lawful n) (sym (left_state v u ps ps' k e)) (lawful_cut n s k u.files u.clock law (omega (arith, length-map ps told)) (fine.count ∙ law.count) fine.stamps (omega (arith, fine.clock, p.few))) ∣₁
 
-pub left_clock : (b : Bool) (v u : Volume) (p : Pending) (o : Option (List ℕ)) → Stamps v.files v.clock → u ≡ left_by b v (named p.outputs) o → u.clock ≤ v.clock + 8
+pub left_clock : (b : Bool) (v u : Volume) (p : Pending) (o : Option (List ℕ)) → Stamps v.files v.clock → u ≡ left_by b v p.outputs.items o → u.clock ≤ v.clock + 8
 left_clock b v u p o h left =
-    let fine : Fine v (length (named p.outputs)) u = subst (Fine v (length (named p.outputs))) (sym left) (left_fine b v (named p.outputs) o h) in
-    omega (arith, fine.clock, length_named p.outputs, p.outputs.few)
+    let fine : Fine v (length p.outputs.items) u = subst (Fine v (length p.outputs.items)) (sym left) (left_fine b v p.outputs.items o h) in
+    omega (arith, fine.clock, p.few)
 
 pub ends_as : (s : State) (e e' : Ended) (t t' : State) → e ≡ e' → t ≡ t' → Ends s e' t' → Ends s e t
 ends_as s e e' t t' p q h = subst (λ (z : Ended). Ends s z t) (sym p) (subst (Ends s e') (sym q) h)

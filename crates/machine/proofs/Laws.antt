@@ -10,13 +10,11 @@ use Rattle.host.specs.State.{Files, State, Command, Lawful, pends}
 use Rattle.host.specs.Calls.{placed, started, command_of, outcome_of, marks}
 use Rattle.host.proofs.Keeps.{held, lawful_blank, lawful_write, lawful_start}
 use Rattle.machine.specs.declared.command.Pending.{Pending}
-use Rattle.machine.specs.declared.command.Outputs.{Outputs}
 use Rattle.machine.specs.Fnv.{hashes}
 use Rattle.machine.specs.Ends.{Volume}
-use Rattle.machine.specs.Pendings.{told, named, marks_from, state_from}
+use Rattle.machine.specs.Pendings.{told, marks_from, state_from}
 use Rattle.machine.specs.Outcomes.{hash_of}
 use Rattle.machine.proofs.Outcomes.{outcome_kept}
-use Rattle.machine.proofs.Settles.{length_named}
 use Rattle.machine.specs.declared.machine.Machine.{Machine}
 use Rattle.machine.specs.Machines.{state_of, capacity_of}
 
@@ -67,17 +65,19 @@ accepted n s e q rs os h =
     }
 
 -- the command that is kept is the one that the host means
-pub told_started : (fs : Files) (t : ℕ) (ps : List Pending) (e : ℕ) (o : Outputs) (h : Option ℕ) (q rs os : List ℕ) → named o ≡ os → h ≡ hash_of fs q rs → told (record { edge = e; outputs = o; hash = h }) ≡ command_of hashes (state_from fs t ps) e q rs os
-told_started fs t ps e o h q rs os named_is hash_is =
-    let n : o.count ≡ length os = sym (length_named o) ∙ ap length named_is in
-    let k : option_map (marks_from o.count) h ≡ outcome_of hashes q (length os) (marks fs rs) = ap (λ (z : ℕ). option_map (marks_from z) h) n ∙ ap (option_map (marks_from (length os))) hash_is ∙ outcome_kept fs q rs (length os) in
-    λ i. record { edge = e; outputs = named_is i; outcome = k i }
+told_started : (fs : Files) (t : ℕ) (ps : List Pending) (p : Pending) (q rs os : List ℕ) → p.outputs.items ≡ os → p.hash ≡ hash_of fs q rs → told p ≡ command_of hashes (state_from fs t ps) p.edge q rs os
+told_started fs t ps p q rs os outputs_are hash_is =
+    let k : option_map (marks_from (length p.outputs.items)) p.hash ≡ outcome_of hashes q (length os) (marks fs rs) = ap (λ (z : List ℕ). option_map (marks_from (length z)) p.hash) outputs_are ∙ ap (option_map (marks_from (length os))) hash_is ∙ outcome_kept fs q rs (length os) in
+    λ i. record { edge = p.edge; outputs = outputs_are i; outcome = k i }
 
 -- the clock has risen, and a command more is pending
-pub start_state : (v u : Volume) (ps ps' : List Pending) (p : Pending) (c : Command) → u ≡ record { files = v.files; clock = v.clock + 1 } → ps' ≡ ps ++ (p ∷ []) → told p ≡ c → state_on u ps' ≡ started None (state_on v ps) c
+start_state : (v u : Volume) (ps ps' : List Pending) (p : Pending) (c : Command) → u ≡ record { files = v.files; clock = v.clock + 1 } → ps' ≡ ps ++ (p ∷ []) → told p ≡ c → state_on u ps' ≡ started None (state_on v ps) c
 start_state v u ps ps' p c rises e q =
     ap (λ (z : Volume). state_on z ps') rises
     ∙ ap (λ (z : List Command). record { files = v.files; clock = v.clock + 1; pending = z }) (ap (map told) e ∙ map_push told ps p ∙ ap (λ (z : Command). map told ps ++ (z ∷ [])) q)
+
+pub admitted : (v u : Volume) (ps ps' : List Pending) (p : Pending) (q rs os : List ℕ) → u ≡ record { files = v.files; clock = v.clock + 1 } → ps' ≡ ps ++ (p ∷ []) → p.outputs.items ≡ os → p.hash ≡ hash_of v.files q rs → state_on u ps' ≡ started None (state_on v ps) (command_of hashes (state_on v ps) p.edge q rs os)
+admitted v u ps ps' p q rs os rises e outputs_are hash_is = start_state v u ps ps' p _ rises e (told_started v.files v.clock ps p q rs os outputs_are hash_is)
 
 pub start_lawful : (n : ℕ) (v u : Volume) (ps ps' : List Pending) (p : Pending) (q : List ℕ) → u ≡ record { files = v.files; clock = v.clock + 1 } → ps' ≡ ps ++ (p ∷ []) → ∥ Lawful n (state_on v ps) ∥₁ → n ≤ 64 → Accepted n (state_on v ps) p.edge q → ∥ Lawful n (state_on u ps') ∥₁
 start_lawful n v u ps ps' p q rises e ok small a =
@@ -86,6 +86,3 @@ start_lawful n v u ps ps' p q rises e ok small a =
 -- what a machine keeps
 pub machine_lawful : (m : Machine) → Lawful (capacity_of m) (state_of m)
 machine_lawful m = held m.lawful
-
-pub machine_small : (m : Machine) → capacity_of m ≤ 64
-machine_small m = m.small

@@ -1,8 +1,7 @@
 -- What the hash of a command comes to, and that it gives the outcome that a host means.
-use Rattle.std.proofs.Common.{◌≡◌, ℕ, ◌+◌, ◌<◌, ◌≤◌, true, false, List, [], ◌∷◌, ◌++◌, map, length, get_or, drop, Some, None, Option, sym, refl, ap, ◌∙◌, inl, inr, arith}
+use Rattle.std.proofs.Common.{◌≡◌, ℕ, true, false, List, [], ◌∷◌, ◌++◌, map, length, Some, None, Option, sym, refl, ap, ◌∙◌, inl, inr, arith}
 use Rattle.std.specs.List.{range_with_len, flat_map}
 use Rattle.std.specs.Option.{option_map}
-use Rattle.std.proofs.lemmas.List.{at_drop_more, at_drop_all}
 use Rattle.std.proofs.lemmas.List.FromFn.{length-map-range_with_len}
 use Rattle.std.proofs.lemmas.Bool.{cases_Bool, cond-true, cond-false}
 use Rattle.host.specs.declared.Stamped.{Stamped}
@@ -12,19 +11,6 @@ use Rattle.machine.specs.Fnv.{fnv_more, fnv_1a, low_first, fails, mark_of, hashe
 use Rattle.machine.specs.Pendings.{marks_from}
 use Rattle.machine.specs.Outcomes.{hash_by, hash_then, hash_from, hash_of}
 use Rattle.machine.proofs.Hashes.{fnv_more_append}
-
--- a loop over the reads
-hash_more : (fs : Files) (h : ℕ) (rs : List ℕ) (i : ℕ) → i < length rs → hash_from fs h (drop i rs) ≡ hash_then (hash_by h (at fs (get_or rs i 0))) (λ k. hash_from fs k (drop (i + 1) rs))
-hash_more fs h rs i l = at_drop_more (hash_from fs h) rs i 0 l
-
-pub hash_next : (fs : Files) (h k : ℕ) (rs : List ℕ) (i : ℕ) → i < length rs → Some k ≡ hash_by h (at fs (get_or rs i 0)) → hash_from fs k (drop (i + 1) rs) ≡ hash_from fs h (drop i rs)
-hash_next fs h k rs i l e = sym (hash_more fs h rs i l ∙ ap (λ (z : Option ℕ). hash_then z (λ k. hash_from fs k (drop (i + 1) rs))) (sym e))
-
-pub hash_none : (fs : Files) (h : ℕ) (rs : List ℕ) (i : ℕ) → i < length rs → None ≡ hash_by h (at fs (get_or rs i 0)) → hash_from fs h (drop i rs) ≡ None
-hash_none fs h rs i l e = hash_more fs h rs i l ∙ ap (λ (z : Option ℕ). hash_then z (λ k. hash_from fs k (drop (i + 1) rs))) (sym e)
-
-pub hash_end : (fs : Files) (h : ℕ) (rs : List ℕ) (i : ℕ) → length rs ≤ i → hash_from fs h (drop i rs) ≡ Some h
-hash_end fs h rs i l = at_drop_all (hash_from fs h) rs i l
 
 -- the hash over the reads is that over their marks, if all are there
 over_marks : (h : ℕ) (x : Stamped) (o : Option (List ℕ)) → option_map (λ (ms : List ℕ). fnv_more (fnv_more h (low_first x.mark)) (flat_map low_first ms)) o ≡ option_map (λ (ms : List ℕ). fnv_more h (flat_map low_first ms)) (with_mark (Some x) o)

@@ -1,27 +1,25 @@
 -- The place of an edge's command.
-use Rattle.std.proofs.Common.{◌≡◌, ℕ, suc, ◌+◌, ◌-◌, ◌<◌, ◌≤◌, Bool, ◌||◌, eqb, List, [], ◌∷◌, map, length, get_or, drop, is_some, Some, None, Option, sym, refl, ap, ◌∙◌, inl, inr, arith}
-use Rattle.std.proofs.lemmas.List.{at_drop_more, at_drop_all}
-use Rattle.std.proofs.lemmas.Bool.{cases_Bool, cond-true, cond-false, eq-eqb, ne_eqb, eqb-true}
+use Rattle.std.proofs.Common.{◌≡◌, ℕ, suc, ◌+◌, ◌-◌, ◌<◌, ◌≤◌, Bool, ◌||◌, eqb, cond, List, [], ◌∷◌, map, length, is_some, Some, None, Option, sym, refl, ap, ◌∙◌, inl, inr, arith}
+use Rattle.std.proofs.lemmas.Iterator.Adapters.{position_from-zero}
+use Rattle.std.specs.List.{position, position_from, list_any}
+use Rattle.std.proofs.lemmas.Bool.{cases_Bool, cond-true, cond-false, eqb-true}
 use Rattle.host.specs.State.{Command, pends, edge_at}
 use Rattle.machine.specs.declared.command.Pending.{Pending}
 use Rattle.machine.specs.Pendings.{told}
 use Rattle.machine.specs.Ends.{place_from}
 
--- the command at i is the edge's
-pub place_here : (ys : List Pending) (i e : ℕ) (p : Pending) → i < length ys → p ≡ get_or ys i p → p.edge ≡ e → place_from i (map told (drop i ys)) e ≡ Some i
-place_here ys i e p l is k =
-    at_drop_more (λ (z : List Pending). place_from i (map told z) e) ys i p l
-    ∙ cond-true (eqb (get_or ys i p).edge e) (Some i) (place_from (i + 1) (map told (drop (i + 1) ys)) e) (eq-eqb _ _ (ap (λ (z : Pending). z.edge) (sym is) ∙ k))
+-- the place of the edge's command, as a search for it among a machine's own commands finds it
+told_from : (i e : ℕ) (ps : List Pending) → position_from (λ (p : Pending). eqb p.edge e) i ps ≡ place_from i (map told ps) e
+told_from i e [] = refl
+told_from i e (p ∷ ps) = ap (cond (eqb p.edge e) (Some i)) (told_from (i + 1) e ps)
 
--- it is not
-pub place_next : (ys : List Pending) (i e : ℕ) (p : Pending) → i < length ys → p ≡ get_or ys i p → (p.edge ≡ e → ⊥) → place_from (i + 1) (map told (drop (i + 1) ys)) e ≡ place_from i (map told (drop i ys)) e
-place_next ys i e p l is k =
-    sym (at_drop_more (λ (z : List Pending). place_from i (map told z) e) ys i p l
-    ∙ cond-false (eqb (get_or ys i p).edge e) (Some i) (place_from (i + 1) (map told (drop (i + 1) ys)) e) (ne_eqb _ _ (λ q. k (ap (λ (z : Pending). z.edge) is ∙ q))))
+pub place_told : (ps : List Pending) (e : ℕ) → position (λ (p : Pending). eqb p.edge e) ps ≡ place_from 0 (map told ps) e
+place_told ps e = position_from-zero (λ (p : Pending). eqb p.edge e) ps ∙ told_from 0 e ps
 
--- there is no command left
-pub place_none : (ps : List Pending) (i e : ℕ) → length ps ≤ i → place_from i (map told (drop i ps)) e ≡ None
-place_none ps i e l = at_drop_all (λ (z : List Pending). place_from i (map told z) e) ps i l
+-- whether there is one
+pub pends_told : (ps : List Pending) (e : ℕ) → list_any (λ (p : Pending). eqb p.edge e) ps ≡ pends (map told ps) e
+pends_told [] e = refl
+pends_told (p ∷ ps) e = ap (λ (b : Bool). eqb p.edge e || b) (pends_told ps e)
 
 some_out : (x y : ℕ) → ◌≡◌ {A = Option ℕ} (Some x) (Some y) → x ≡ y
 some_out x y e = cc

@@ -1,6 +1,6 @@
 -- What the machine's commands leave as they end, exactly. Assumes nothing.
 use Rattle.std.specs.Prelude.{ℕ, ◌+◌, Bool, false, cond, not, ◌&&◌, List, [], ◌∷◌, length, is_some, Some, None, Ok, Err, Option, Result, ◌==◌, nat_lt, slice_index_or, slice_set}
-use Rattle.std.specs.List.{remove}
+use Rattle.std.specs.List.{remove, position_from}
 use Rattle.host.specs.declared.Stamped.{Stamped}
 use Rattle.host.specs.declared.Ended.{Ended}
 use Rattle.host.specs.declared.Refusal.{Refusal}
@@ -68,8 +68,7 @@ edge_here s k = edge_in s.pending k
 
 -- the place of the command of an edge, counted from i on
 abbrev pub place_from : ℕ → List Command → ℕ → Option ℕ
-place_from i [] e = None
-place_from i (c ∷ cs) e = cond (c.edge == e) (Some i) (place_from (i + 1) cs e)
+place_from i cs e = position_from (λ (c : Command). c.edge == e) i cs
 
 -- the place of the pending command of an edge
 abbrev pub place_of : State → ℕ → Option ℕ

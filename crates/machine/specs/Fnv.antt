@@ -1,6 +1,6 @@
 -- 32-bit FNV-1a, and the marks that commands make by it. Assumes nothing.
 use Rattle.std.specs.Prelude.{ℕ, ◌*◌, ◌/◌, ◌%◌, Bool, true, false, cond, ◌&&◌, List, [], ◌∷◌, ◌++◌, map, Some, None, codes, ◌==◌, bit_xor}
-use Rattle.std.specs.List.{range_with_len, flat_map}
+use Rattle.std.specs.List.{range_with_len, flat_map, fold}
 use Rattle.host.specs.Calls.{Makes}
 
 -- one byte more: xor, then times 16,777,619, of which 32 bits stay
@@ -9,8 +9,7 @@ fnv_step h b = (bit_xor h b * 16777619) % 4294967296
 
 -- some bytes more
 abbrev pub fnv_more : ℕ → List ℕ → ℕ
-fnv_more h [] = h
-fnv_more h (b ∷ bs) = fnv_more (fnv_step h b) bs
+fnv_more h bs = fold fnv_step h bs
 
 -- the hash of some bytes
 abbrev pub fnv_1a : List ℕ → ℕ

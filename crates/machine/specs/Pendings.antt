@@ -1,15 +1,10 @@
 -- What a machine's own records mean. Assumes nothing.
-use Rattle.std.specs.Prelude.{ℕ, List, map, take}
+use Rattle.std.specs.Prelude.{ℕ, List, map, length}
 use Rattle.std.specs.List.{range_with_len}
 use Rattle.std.specs.Option.{option_map}
 use Rattle.host.specs.State.{Files, State, Command}
-use Rattle.machine.specs.declared.command.Outputs.{Outputs}
 use Rattle.machine.specs.declared.command.Pending.{Pending}
 use Rattle.machine.specs.Fnv.{fnv_step}
-
--- the file numbers, in their order
-abbrev pub named : Outputs → List ℕ
-named o = take o.count o.files
 
 -- the marks that come of a hash, for so many outputs
 abbrev pub marks_from : ℕ → ℕ → List ℕ
@@ -17,7 +12,7 @@ marks_from n h = map (fnv_step h) (range_with_len 0 n)
 
 -- a pending command as a host means it
 abbrev pub told : Pending → Command
-told p = record { edge = p.edge; outputs = named p.outputs; outcome = option_map (marks_from p.outputs.count) p.hash }
+told p = record { edge = p.edge; outputs = p.outputs.items; outcome = option_map (marks_from (length p.outputs.items)) p.hash }
 
 -- a host's meaning, from a machine's files, clock and pending commands
 abbrev pub state_from : Files → ℕ → List Pending → State

@@ -7,10 +7,10 @@ ghost use Rattle.machine.specs.Fnv.{hashes};
 ghost use Rattle.machine.specs.Ends.{edge_here, place_of, ending, ending_at, finished, finished_at, break_answer, broken, broken_at, broken_by};
 ghost use Rattle.machine.specs.Machines.{state_of, capacity_of, fresh};
 
-use crate::checks;
-use crate::command::{Outputs, Pending};
+use crate::command::{MOST_OUTPUTS, Pending};
 use crate::disk::Disk;
 use crate::machine::Machine;
+use crate::{checks, outputs};
 use host::{Ended, Job, Refusal, Stamped};
 use std::alloc::{AllocError, Global};
 
@@ -24,8 +24,6 @@ const LAST_EDGE: usize = 127;
 const MOST_QUESTION: usize = 1024;
 
 const MOST_READS: usize = 64;
-
-const MOST_OUTPUTS: usize = 8;
 
 impl Machine {
     // No files, clock 0, nothing pending; at most 64 commands may be.
@@ -135,7 +133,7 @@ impl Machine {
         ensures capacity { capacity_of self.new ≡ capacity_of self.old }
     {
         let hash = self.disk.hash_of(job.question, job.reads);
-        let outputs = Outputs::new(job.outputs);
+        let outputs = outputs::kept(job.outputs);
         self.disk.rise();
         self.pending.push_reserved(Pending {
             edge: job.edge,
@@ -195,13 +193,11 @@ impl Machine {
         ensures breaks { edge ≤ 127 → BreaksOff (state_of self.old) edge (Ok result) (state_of self.new) }
         ensures capacity { capacity_of self.new ≡ capacity_of self.old }
     {
-        match self.place_of(edge) {
-            None => false,
-            Some(place) => {
-                self.drop_at(place);
-                true
-            }
-        }
+        let Some(place) = self.place_of(edge) else {
+            return false;
+        };
+        self.drop_at(place);
+        true
     }
 
     // Removes the command at a place with its outputs.

@@ -1,7 +1,7 @@
 // Looks over lists of commands and of file numbers.
-ghost use Rattle.std.specs.Prelude.{◌≡◌, ℕ, ◌+◌, ◌<◌, Bool, true, false, List, map, is_some};
+ghost use Rattle.std.specs.Prelude.{◌≡◌, map};
 ghost use Rattle.host.specs.State.{pends};
-ghost use Rattle.host.specs.Refusals.{holds_number, repeats, strays};
+ghost use Rattle.host.specs.Refusals.{repeats, strays};
 ghost use Rattle.machine.specs.Pendings.{told};
 ghost use Rattle.machine.specs.Ends.{edge_in, place_from};
 
@@ -11,63 +11,40 @@ use crate::command::Pending;
 pub(crate) fn place_in(pending: &[Pending], edge: usize) -> Option<usize>
     ensures { result ≡ place_from 0 (map told pending.now) edge }
 {
-    for (i, p) in pending.iter().enumerate() {
-        if p.edge == edge {
-            return Some(i);
-        }
-    }
-    None
+    pending.iter().position(|command| command.edge == edge)
 }
 
 // The edge of the command at a place.
 pub(crate) fn edge_in(pending: &[Pending], place: usize) -> Option<usize>
     ensures { result ≡ edge_in (map told pending.now) place }
 {
-    if place >= pending.len() {
-        return None;
-    }
-    Some(pending[place].edge)
+    pending.get(place).map(|command| command.edge)
 }
 
 // Whether a command of the edge is pending.
 pub(crate) fn is_pending(pending: &[Pending], edge: usize) -> bool
     ensures { result ≡ pends (map told pending.now) edge }
 {
-    place_in(pending, edge).is_some()
+    pending.iter().any(|command| command.edge == edge)
 }
 
 // Whether a file is above the last.
 pub(crate) fn has_stray(files: &[usize]) -> bool
     ensures { result ≡ strays files.now }
 {
-    for file in files {
-        if *file > 255 {
-            return true;
-        }
-    }
-    false
+    files.iter().any(|file| *file > 255)
 }
 
 // Whether a file stands there twice.
 pub(crate) fn has_repeat(files: &[usize]) -> bool
     ensures { result ≡ repeats files.now }
 {
-    for i in 0..files.len() {
-        if holds(&files[i + 1..], files[i]) {
+    let mut rest = files;
+    while let Some((file, later)) = rest.split_first() {
+        if later.contains(file) {
             return true;
         }
-    }
-    false
-}
-
-// Whether the file stands there.
-fn holds(files: &[usize], file: usize) -> bool
-    ensures { result ≡ holds_number files.now file }
-{
-    for f in files {
-        if *f == file {
-            return true;
-        }
+        rest = later;
     }
     false
 }

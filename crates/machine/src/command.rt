@@ -1,19 +1,16 @@
 // A pending command: its edge, its outputs, and the hash that its marks come of.
-ghost use Rattle.std.specs.Prelude.{◌≡◌, ◌≤◌, length};
+ghost use Rattle.std.specs.Prelude.{◌≤◌};
+ghost use Rattle.arrayvec.specs.ArrayVec.{array_vec_len};
 
-// One to eight file numbers.
-#[derive(Clone, Copy)]
-pub struct Outputs {
-    pub(crate) files: [u8; 8],
-    pub(crate) count: usize,
-    ghost few: { count ≤ 8 },
-    ghost long: { length files ≡ 8 },
-}
+use arrayvec::ArrayVec;
+
+pub(crate) const MOST_OUTPUTS: usize = 8;
 
 // A command that was started. Its hash is that of the question and the read marks; without one it fails.
-#[derive(Clone, Copy)]
+#[derive(Drop)]
 pub struct Pending {
     pub(crate) edge: usize,
-    pub(crate) outputs: Outputs,
+    pub(crate) outputs: ArrayVec<u8, MOST_OUTPUTS>,
     pub(crate) hash: Option<u32>,
+    ghost few: { array_vec_len outputs ≤ 8 },
 }

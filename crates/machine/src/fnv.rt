@@ -17,11 +17,7 @@ pub fn fnv1a(bytes: &[u8]) -> u32
 pub(crate) fn hashed(hash: u32, bytes: &[u8]) -> u32
     ensures { result ≡ fnv_more hash bytes.now }
 {
-    let mut h = hash;
-    for b in bytes {
-        h = step(h, *b);
-    }
-    h
+    bytes.iter().fold(hash, |h, byte| step(h, *byte))
 }
 
 // A hash with one byte more.
@@ -35,28 +31,19 @@ pub(crate) fn step(hash: u32, byte: u8) -> u32
 pub(crate) fn is_failing(question: &[u8]) -> bool
     ensures { result ≡ fails question.now }
 {
-    question.len() > 3
-        && question[0] == b'f'
-        && question[1] == b'a'
-        && question[2] == b'i'
-        && question[3] == b'l'
+    question.starts_with(b"fail")
 }
 
 // How many bytes the question's command has.
 pub fn command_len(question: &[u8]) -> usize
     ensures { result ≡ length (command_text question.now) }
 {
-    first_zero(question)
+    bytes_before_zero(question)
 }
 
-// The place of the first byte 0; the length where there is none.
-fn first_zero(question: &[u8]) -> usize
+// How many bytes stand before the first byte 0.
+fn bytes_before_zero(question: &[u8]) -> usize
     ensures { result ≡ length (command_text question.now) }
 {
-    for (i, b) in question.iter().enumerate() {
-        if *b == 0 {
-            return i;
-        }
-    }
-    question.len()
+    question.iter().take_while(|byte| **byte != 0).count()
 }

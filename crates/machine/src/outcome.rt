@@ -23,10 +23,7 @@ impl Disk {
     {
         let mut h = hash;
         for file in reads {
-            match self.hash_read(h, *file) {
-                Some(next) => h = next,
-                None => return None,
-            }
+            h = self.hash_read(h, *file)?;
         }
         Some(h)
     }
@@ -35,9 +32,7 @@ impl Disk {
     fn hash_read(&self, hash: u32, file: usize) -> Option<u32>
         ensures { result ≡ hash_by hash (at self.now.files.items file) }
     {
-        match self.look(file) {
-            Some(held) => Some(fnv::hashed(hash, &held.mark.to_le_bytes())),
-            None => None,
-        }
+        self.look(file)
+            .map(|held| fnv::hashed(hash, &held.mark.to_le_bytes()))
     }
 }

@@ -3,12 +3,11 @@ ghost use Rattle.std.specs.Prelude.{◌≡◌, ℕ, ◌+◌, ◌<◌, ◌≤◌,
 ghost use Rattle.host.specs.State.{at};
 ghost use Rattle.host.specs.Refusals.{tell_answer};
 ghost use Rattle.host.specs.Calls.{placed};
-ghost use Rattle.machine.specs.Fnv.{fnv_step};
 ghost use Rattle.machine.specs.Ends.{Volume, settled, all_settled, all_removed, has, left_by};
-ghost use Rattle.machine.specs.Pendings.{named, marks_from, told};
+ghost use Rattle.machine.specs.Pendings.{marks_from, told};
 ghost use Rattle.machine.specs.Disks.{volume};
 
-use crate::command::{Outputs, Pending};
+use crate::command::Pending;
 use crate::disk::Disk;
 use crate::fnv;
 use host::{Refusal, Stamped};
@@ -22,7 +21,7 @@ impl Disk {
         ensures { IfOk result (λ d. volume d ≡ record { files = replicate 256 None; clock = 0 }) }
     {
         Ok(Disk {
-            files: blank(heap)?,
+            files: vec![in heap; None; FILES]?,
             clock: 0,
         })
     }
@@ -30,10 +29,7 @@ impl Disk {
     pub(crate) fn tell(&self, file: usize) -> Result<Option<Stamped>, Refusal>
         ensures { result ≡ tell_answer (volume self.now).files file }
     {
-        if file >= FILES {
-            return Err(Refusal::BadCall);
-        }
-        Ok(self.files[file])
+        self.files.get(file).copied().ok_or(Refusal::BadCall)
     }
 
     pub(crate) fn time(&self) -> u32
@@ -46,7 +42,7 @@ impl Disk {
     pub(crate) fn look(&self, file: usize) -> Option<Stamped>
         ensures { result ≡ at self.now.files.items file }
     {
-        if file < FILES { self.files[file] } else { None }
+        self.files.get(file).copied().flatten()
     }
 
     // The clock rises, and the file gets the mark with that stamp or is removed.
@@ -56,13 +52,8 @@ impl Disk {
         ensures { volume self.new ≡ record { files = slice_set (volume self.old).files file (placed (self.old.clock + 1) mark); clock = self.old.clock + 1 } }
     {
         self.rise();
-        self.files[file] = match mark {
-            Some(mark) => Some(Stamped {
-                stamp: self.clock,
-                mark,
-            }),
-            None => None,
-        };
+        let stamp = self.clock;
+        self.files[file] = mark.map(|mark| Stamped { stamp, mark });
     }
 
     // The clock rises by 1.
@@ -91,31 +82,19 @@ impl Disk {
         requires { file < 256 }
         ensures { result ≡ has (slice_index_or (volume self.now).files file None) mark }
     {
-        match self.files[file] {
-            Some(held) => held.mark == mark,
-            None => false,
-        }
+        self.files[file].is_some_and(|held| held.mark == mark)
     }
 
     // The marks of a hash come into the outputs, in their order.
-    pub(crate) fn settle_all(&mut self, outputs: &Outputs, hash: u32, rewrites: bool)
-        requires { self.old.clock ≤ 4000000513 }
-        ensures { volume self.new ≡ all_settled rewrites (volume self.old) (named outputs.now) (marks_from outputs.now.count hash) }
+    pub(crate) fn settle_all(&mut self, outputs: &[u8], hash: u32, rewrites: bool)
+        requires few { length outputs.now ≤ 8 }
+        requires clock { self.old.clock ≤ 4000000513 }
+        ensures { volume self.new ≡ all_settled rewrites (volume self.old) outputs.now (marks_from (length outputs.now) hash) }
     {
-        for i in 0..outputs.count {
-            self.settle_at(outputs, i, hash, rewrites);
+        for (place, file) in outputs.iter().enumerate() {
+            let mark = fnv::step(hash, place as u8);
+            self.settle(usize::from(*file), mark, rewrites);
         }
-    }
-
-    // The mark of the output at a place comes into it.
-    fn settle_at(&mut self, outputs: &Outputs, place: usize, hash: u32, rewrites: bool)
-        requires place { place < outputs.now.count }
-        requires clock { self.old.clock < 4100000000 }
-        ensures after { volume self.new ≡ settled rewrites (volume self.old) (slice_index outputs.now.files place) (fnv_step hash place) }
-        ensures clock { self.new.clock ≤ self.old.clock + 1 }
-    {
-        let mark = fnv::step(hash, place as u8);
-        self.settle(outputs.files[place] as usize, mark, rewrites);
     }
 
     // What a command leaves as it ends.
@@ -130,22 +109,11 @@ impl Disk {
     }
 
     // The outputs are removed; the clock stays.
-    pub(crate) fn remove_all(&mut self, outputs: &Outputs)
-        ensures { volume self.new ≡ record { files = all_removed (volume self.old).files (named outputs.now); clock = self.old.clock } }
+    pub(crate) fn remove_all(&mut self, outputs: &[u8])
+        ensures { volume self.new ≡ record { files = all_removed (volume self.old).files outputs.now; clock = self.old.clock } }
     {
-        for k in 0..outputs.count {
-            self.files[outputs.files[k] as usize] = None;
+        for file in outputs {
+            self.files[usize::from(*file)] = None;
         }
     }
-}
-
-// Absent files, one for each number.
-fn blank(heap: Global) -> Result<Vec<Option<Stamped>>, AllocError>
-    ensures { IfOk result (λ v. v.items ≡ replicate 256 None) }
-{
-    let mut files = Vec::with_capacity(heap, FILES)?;
-    for i in 0..FILES {
-        files.push_reserved(None);
-    }
-    Ok(files)
 }

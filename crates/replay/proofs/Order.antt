@@ -1,7 +1,5 @@
 -- Turns compare by their places first, then by their edges.
-use Rattle.std.proofs.Common.{◌≡◌, ℕ, List, Option, MatchOption, ap, ◌∙◌}
-use Rattle.std.specs.Ordering.{nat_cmp, ordering_then}
-use Rattle.std.specs.declared.cmp.Ordering.{Ordering}
+use Rattle.std.proofs.Common.{◌≡◌, ℕ, List, Option, MatchOption}
 use Rattle.order.specs.Earliest.{Earliest, TellsApart, comes_before, earliest_place}
 use Rattle.order.proofs.Pairs.{pair_before, pair_tied, earliest_place_by, earliest_by}
 use Rattle.replay.specs.declared.turn.Turn.{Turn}

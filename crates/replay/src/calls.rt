@@ -1,12 +1,11 @@
 // The replay's calls: the rules of a host, with every choice decided by the recording.
-ghost use Rattle.std.specs.Prelude.{◌≡◌, ℕ, ◌+◌, ◌*◌, ◌<◌, ◌≤◌, Bool, true, false, List, [], length, drop, is_some, IfSome, is_ok, Some, None, vec_len, MatchOption};
+ghost use Rattle.std.specs.Prelude.{◌≡◌, ℕ, ◌<◌, false, IfSome, is_ok, MatchOption};
 ghost use Rattle.std.proofs.Common.{subst, rules, arith};
-ghost use Rattle.host.specs.State.{no_command, Lawful};
-ghost use Rattle.host.specs.Calls.{start_answer, after_start, write_answer, after_write, Polls, Ends, BreaksOff};
+ghost use Rattle.host.specs.State.{Lawful};
+ghost use Rattle.host.specs.Calls.{start_answer, after_start, write_answer, after_write, Polls, BreaksOff};
 ghost use Rattle.machine.specs.Fnv.{hashes};
-ghost use Rattle.machine.specs.Ends.{ending, break_answer, broken};
-ghost use Rattle.replay.specs.Turns.{left_after};
-ghost use Rattle.replay.specs.Replays.{turn_at, next_place, rep_ended, rep_polled, rep_answer, TurnFirst};
+ghost use Rattle.machine.specs.Ends.{break_answer, broken};
+ghost use Rattle.replay.specs.Replays.{next_place, rep_polled, rep_answer, TurnFirst};
 ghost use Rattle.replay.specs.Meaning.{rep_of, host_of};
 ghost use Rattle.machine.specs.Machines.{state_of};
 ghost use Rattle.machine.proofs.Laws.{machine_lawful};
@@ -23,6 +22,7 @@ impl FileView for Replay {
     }
 }
 
+// A method's own clauses stand in place of the trait's: one that says more says the trait's again.
 impl Host for Replay {
     const CAPACITY: usize = CAPACITY;
 

@@ -1,5 +1,5 @@
 // A replay's beginning, the endings that are left, and whose turn it is.
-ghost use Rattle.std.specs.Prelude.{◌≡◌, ℕ, ◌+◌, ◌<◌, ◌≤◌, Bool, true, false, List, length, MatchOption, ◌==◌};
+ghost use Rattle.std.specs.Prelude.{◌≡◌, length, MatchOption, ◌==◌};
 ghost use Rattle.std.specs.List.{position};
 ghost use Rattle.order.specs.Earliest.{Earliest};
 ghost use Rattle.replay.specs.Turns.{by_place, next_from, turn_of, left_after, endings_of};
@@ -43,7 +43,7 @@ impl Replay {
         earliest(self.turns().as_slice())
     }
 
-    // The turns of the pending commands.
+    // The turns of the pending commands. A poll may not fail for want of memory, so they need none.
     fn turns(&self) -> ArrayVec<Turn, CAPACITY>
         ensures { result.items ≡ turns (rep_of self.now) }
     {

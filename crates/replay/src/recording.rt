@@ -1,5 +1,5 @@
 // A recording: the letters `NJR` and then up to 512 bytes, each the number of an edge.
-ghost use Rattle.std.specs.Prelude.{◌≡◌, ℕ, ◌+◌, ◌<◌, Bool, true, false, List, length, Option};
+ghost use Rattle.std.specs.Prelude.{◌≡◌};
 ghost use Rattle.std.specs.Option.{option_map};
 ghost use Rattle.replay.specs.Turns.{endings_of, all_edges};
 ghost use Rattle.replay.specs.declared.recording.Fault.TheVariants.{Memory};

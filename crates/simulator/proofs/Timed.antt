@@ -52,11 +52,3 @@ timed_gone s k t tick ds l p e up le h =
       ];
     } in
     subst (λ (z : List Due). Timed (record { host = t; tick = tick; dues = z })) (sym e) base
-
--- the commands are the same, and the clock has not fallen
-pub timed_same : (s : Sim) (t : State) → t.pending ≡ s.host.pending → s.host.clock ≤ t.clock → Timed s → Timed (record { host = t; tick = s.tick; dues = s.dues })
-timed_same s t p up h = record {
-  paired = h.paired ∙ ap (map (λ (c : Command). c.edge)) (sym p);
-  now = omega (arith, h.now);
-  later = λ k l. omega (arith, h.later k l);
-}

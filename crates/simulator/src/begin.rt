@@ -12,12 +12,10 @@ impl Simulator {
     pub fn new(heap: Global) -> Result<Simulator, AllocError>
         ensures { IfOk result (λ s. sim_of s ≡ sim_fresh) }
     {
-        let machine = Machine::new(heap, CAPACITY)?;
-        let dues = Vec::with_capacity(heap, CAPACITY)?;
         Ok(Simulator {
-            machine,
+            machine: Machine::new(heap, CAPACITY)?,
             tick: 0,
-            dues,
+            dues: Vec::with_capacity(heap, CAPACITY)?,
         })
     }
 

@@ -1,12 +1,12 @@
 // The simulator's calls: the rules of a host, with every choice decided.
-ghost use Rattle.std.specs.Prelude.{◌≡◌, ℕ, ◌+◌, ◌*◌, ◌<◌, ◌≤◌, Bool, true, false, List, [], length, IfSome, is_ok, Some, None, vec_len, MatchOption, slice_index_or};
+ghost use Rattle.std.specs.Prelude.{◌≡◌, ℕ, ◌<◌, false, length, IfSome, is_ok, MatchOption};
 ghost use Rattle.std.proofs.Common.{subst, rules, arith};
-ghost use Rattle.host.specs.Calls.{start_answer, after_start, write_answer, after_write, Polls, Ends, BreaksOff};
+ghost use Rattle.host.specs.Calls.{start_answer, after_start, write_answer, after_write, Polls, BreaksOff};
 ghost use Rattle.machine.specs.Fnv.{hashes};
-ghost use Rattle.machine.specs.Ends.{ending, break_answer, place_of};
+ghost use Rattle.machine.specs.Ends.{break_answer};
 ghost use Rattle.order.specs.Earliest.{Earliest, earliest_place};
-ghost use Rattle.simulator.specs.Dues.{by_due, no_due};
-ghost use Rattle.simulator.specs.Sims.{sim_after_start, sim_ended, sim_polled, sim_answer, sim_broken, sim_after_write, DueFirst};
+ghost use Rattle.simulator.specs.Dues.{by_due};
+ghost use Rattle.simulator.specs.Sims.{sim_after_start, sim_polled, sim_answer, sim_broken, sim_after_write, DueFirst};
 ghost use Rattle.simulator.specs.Simulators.{sim_of, host_of};
 ghost use Rattle.host.specs.State.{Lawful};
 ghost use Rattle.machine.specs.Machines.{state_of};
@@ -38,6 +38,7 @@ impl FileView for Simulator {
     }
 }
 
+// A method's own clauses stand in place of the trait's: one that says more says the trait's again.
 impl Host for Simulator {
     const CAPACITY: usize = CAPACITY;
 

@@ -14,6 +14,7 @@ pub(crate) const CAPACITY: usize = 16;
 pub struct Simulator {
     pub(crate) machine: Machine,
     pub(crate) tick: u64,
+    // In the order of the pending. They stand beside the machine, which the replay shares and which is proved once: a replay has none.
     pub(crate) dues: Vec<Due>,
     ghost capacity: { capacity_of machine ≡ 16 },
     ghost room: { 16 ≤ vec_capacity dues },

@@ -7,3 +7,5 @@ mod hashes;
 mod replays;
 #[cfg(test)]
 mod simulations;
+#[cfg(test)]
+mod words;

@@ -1,15 +1,14 @@
-use Rattle.std.proofs.Common.{drop, sym, ◌∙◌, arith}
+use Rattle.std.proofs.Common.{◌≡◌, get_or, ◌∙◌, arith}
+use Rattle.machine.specs.Ends.{settled}
+use Rattle.machine.specs.Fnv.{fnv_step}
 use Rattle.machine.specs.Disks.{volume}
-use Rattle.machine.specs.Pendings.{marks_from}
-use Rattle.machine.proofs.Settles.{settle_more, settle_all}
+use Rattle.machine.proofs.Settles.{settle_more}
 use Rattle.machine.proofs.disk.Disk.settle_all.Goals as goal
 
-pub loop-i-preserved : goal.loop-i-preserved
-loop-i-preserved c =
-    let w = c.settle_at.ensures in (
-      settle_more c.args.rewrites (volume c.loop-i.self) (volume c.settle_at.new.self) c.args.outputs.now c.args.hash c.loop-i.i c.loop-i-test.true w.after ∙ c.loop-i.invariant.0,
-      omega (arith, w.clock, c.loop-i.invariant.1),
+pub loop-place-preserved : goal.loop-place-preserved
+loop-place-preserved c =
+    let w = c.settle.ensures in
+    let after : volume c.settle.new.self ≡ settled c.args.rewrites (volume c.loop-place.self) (get_or c.args.outputs.now c.loop-place.place 0) (fnv_step c.args.hash c.loop-place.place) = cc in (
+      settle_more c.args.rewrites (volume c.loop-place.self) (volume c.settle.new.self) c.args.outputs.now c.args.hash c.loop-place.place c.loop-place-test.true after ∙ c.loop-place.invariant.0,
+      omega (arith, w.clock, c.loop-place.invariant.1),
     )
-
-pub returns : goal.returns
-returns c = sym (settle_all c.args.rewrites (volume c.loop-i.self) c.args.outputs.now (drop c.loop-i.i (marks_from c.args.outputs.now.count c.args.hash)) c.loop-i.i c.loop-i-test.false) ∙ c.loop-i.invariant.0

@@ -2,7 +2,7 @@ use Rattle.std.proofs.Common.{vec_items, ap, arith, rules}
 use Rattle.machine.specs.Ends.{Volume}
 use Rattle.machine.specs.Disks.{volume}
 use Rattle.machine.specs.Machines.{state_of}
-use Rattle.machine.proofs.Laws.{accepted, each_counted, start_lawful, start_state, told_started}
+use Rattle.machine.proofs.Laws.{accepted, admitted, each_counted, start_lawful}
 use Rattle.machine.proofs.machine.Machine.admit.Goals as goal
 
 pub invariant_of-self : goal.invariant_of-self
@@ -25,7 +25,6 @@ returns c =
     let self = c.args.self.now in
     record {
       answer = ap (λ (v : Volume). v.clock) c.rise.ensures;
-      after = start_state (volume self.disk) (volume c.rise.new.self) (vec_items self.pending) _ _ _ c.rise.ensures c.push_reserved.ensures.items
-          (told_started (vec_items self.disk.files) self.disk.clock (vec_items self.pending) c.args.job.edge c.new-outputs.result c.hash_of-hash.result c.args.job.question.now c.args.job.reads.now c.args.job.outputs.now c.new-outputs.ensures c.hash_of-hash.ensures);
+      after = admitted (volume self.disk) (volume c.rise.new.self) (vec_items self.pending) _ _ c.args.job.question.now c.args.job.reads.now c.args.job.outputs.now c.rise.ensures c.push_reserved.ensures.items c.kept-outputs.ensures c.hash_of-hash.ensures;
       capacity = search rules;
     }

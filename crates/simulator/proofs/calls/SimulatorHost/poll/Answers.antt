@@ -1,9 +1,9 @@
-use Rattle.std.proofs.Common.{◌≡◌, ◌<◌, length, vec_items, sym, refl, ◌∙◌, arith, rules}
+use Rattle.std.proofs.Common.{◌≡◌, ◌<◌, length, sym, refl, ◌∙◌, arith, rules}
 use Rattle.std.specs.List.{remove}
 use Rattle.machine.specs.Machines.{state_of}
 use Rattle.simulator.specs.Simulators.{host_of}
 use Rattle.simulator.proofs.Timed.{paired_length}
-use Rattle.simulator.proofs.Kept.{end_timed, end_small, end_first}
+use Rattle.simulator.proofs.Kept.{end_timed, end_first}
 use Rattle.simulator.proofs.calls.SimulatorHost.poll.Goals as goal
 
 pub invariant_of-self : goal.invariant_of-self
@@ -21,11 +21,6 @@ invariant_of-self c =
       current = timed.now;
       later = timed.later;
     }
-
-pub returns-clause-small : goal.returns-clause-small
-returns-clause-small c =
-    let self = c.args.self.now in
-    end_small self c.in_ok-place.place _ _ _ _ (omega (arith, c.in_ok-place.ensures.first.within, self.each, self.dues.ok.0)) c.finish.ensures.answer c.finish.ensures.ends
 
 pub returns-clause-first : goal.returns-clause-first
 returns-clause-first c =

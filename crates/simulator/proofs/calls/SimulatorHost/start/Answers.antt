@@ -1,4 +1,4 @@
-use Rattle.std.proofs.Common.{ℕ, ◌+◌, ◌≤◌, length, vec_items, sym, ◌∙◌, arith, rules}
+use Rattle.std.proofs.Common.{◌≤◌, length, vec_items, sym, ◌∙◌, rules}
 use Rattle.machine.specs.Machines.{state_of}
 use Rattle.machine.specs.Fnv.{command_text}
 use Rattle.simulator.proofs.Timed.{Timed, paired_length}
