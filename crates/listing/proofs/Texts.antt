@@ -1,6 +1,5 @@
 -- Numbers and texts, piece by piece.
-use Rattle.std.proofs.Common.{◌≡◌, ℕ, suc, ◌+◌, ◌/◌, ◌%◌, ◌^◌, ◌<◌, ◌≤◌, Bool, true, false, ◌&&◌, eqb, List, [], ◌∷◌, ◌++◌, length, get_or, take, drop, replicate, decimal, sym, refl, ap, ◌∙◌, not, Some, None, ⊎_elim, inl, inr, append_assoc, add-one, arith}
-use Rattle.std.proofs.lemmas.Fmt.{decimal_digit, decimal_step}
+use Rattle.std.proofs.Common.{◌≡◌, ℕ, suc, ◌+◌, ◌<◌, ◌≤◌, Bool, true, false, ◌&&◌, eqb, List, [], ◌∷◌, ◌++◌, length, get_or, take, drop, replicate, sym, refl, ap, ◌∙◌, not, Some, None, ⊎_elim, inl, inr, append_assoc, add-one, arith}
 use Rattle.std.proofs.lemmas.Bool.{cases_Bool, cases_lt, lt-ltb, le-ltb, cond-true, cond-false, and_parts, eqb-true, eqb-false}
 use Rattle.std.specs.List.{fold, position, position_or_len}
 use Rattle.std.proofs.lemmas.List.Recursion.{is_position_or_len}
@@ -14,15 +13,6 @@ and_assoc false b c = refl
 and_true : (a : Bool) → (a && true) ≡ a
 and_true true = refl
 and_true false = refl
-
--- a number of two digits, and one of more
-pub decimal_two : (n : ℕ) → 10 ≤ n → n / 10 < 10 → n < 2 ^ 64 → decimal n ≡ (48 + n / 10) ∷ (48 + n % 10) ∷ []
-decimal_two n h k f = decimal_step n h f ∙ ap (λ ds. ds ++ ((48 + n % 10) ∷ [])) (decimal_digit (n / 10) k)
-
-pub decimal_more : (n : ℕ) → 10 ≤ n / 10 → n < 2 ^ 64 → decimal n ≡ decimal (n / 10 / 10) ++ ((48 + n / 10 % 10) ∷ (48 + n % 10) ∷ [])
-decimal_more n h f =
-    decimal_step n (omega arith) f
-    ∙ (ap (λ ds. ds ++ ((48 + n % 10) ∷ [])) (decimal_step (n / 10) h (omega arith)) ∙ append_assoc (decimal (n / 10 / 10)) ((48 + n / 10 % 10) ∷ []) ((48 + n % 10) ∷ []))
 
 -- a test of all bytes, one after another
 pub every_folded : (test : ℕ → Bool) (s : List ℕ) (have : Bool) → fold (λ a x. a && test x) have s ≡ (have && every test s)

@@ -3,6 +3,7 @@ ghost use Rattle.std.specs.List.{position};
 ghost use Rattle.std.specs.Prelude.{not, ◌≡◌, ℕ, ◌%◌, Bool, List, [], ◌∷◌, decimal};
 ghost use Rattle.listing.specs.Listing.{hex_digit, hex2, hex8, plain_byte, escaped, shown, every, plain_len, spaced, numbers, Puts};
 
+use itoa::Buffer;
 use std::alloc::AllocError;
 use std::mem;
 
@@ -23,20 +24,11 @@ fn put_long(out: &mut Vec<u8>, part: &[u8]) -> Result<(), AllocError>
     done
 }
 
-// Puts a number in decimal digits, two at a time. A `format!` would allocate a text of its own.
+// Puts a number in decimal digits.
 pub(crate) fn put_number(out: &mut Vec<u8>, n: usize) -> Result<(), AllocError>
     ensures { Puts result out.old out.new (decimal n) }
 {
-    if n < 10 {
-        return put(out, &[b'0' + n as u8]);
-    }
-    let front = n / 10;
-    let last = b'0' + (n % 10) as u8;
-    if front < 10 {
-        return put(out, &[b'0' + front as u8, last]);
-    }
-    put_number(out, front / 10)?;
-    put(out, &[b'0' + (front % 10) as u8, last])
+    put(out, Buffer::new().format(n).as_bytes())
 }
 
 // Puts numbers, each after a space.
