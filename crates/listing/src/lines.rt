@@ -9,7 +9,8 @@ use crate::words::{put, put_hex, put_number, put_numbers, put_text};
 use graph::{Edge, File, Pool};
 use std::alloc::AllocError;
 
-// What has lines of its own in a listing.
+// What has lines of its own in a listing. They are put as bytes, and not by a `Display`: a path or text may have any byte, and its
+// plain bytes are moved many at a time.
 pub(crate) trait Listed {
     // the lines, by the number that it has
     ghost lines: { ℕ → Self → List ℕ };

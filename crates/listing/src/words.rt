@@ -3,10 +3,11 @@ ghost use Rattle.std.specs.List.{position};
 ghost use Rattle.std.specs.Prelude.{not, ◌≡◌, ℕ, ◌%◌, Bool, List, [], ◌∷◌, decimal};
 ghost use Rattle.listing.specs.Listing.{hex_digit, hex2, hex8, plain_byte, escaped, shown, every, plain_len, spaced, numbers, Puts};
 
+use itoa::Buffer;
 use std::alloc::AllocError;
 use std::mem;
 
-// Puts bytes as they are.
+// Puts bytes as they are. Its promise is one equation, where that of `extend_from_slice` speaks of clones.
 pub(crate) fn put(out: &mut Vec<u8>, part: &[u8]) -> Result<(), AllocError>
     ensures { Puts result out.old out.new part.now }
 {
@@ -27,16 +28,7 @@ fn put_long(out: &mut Vec<u8>, part: &[u8]) -> Result<(), AllocError>
 pub(crate) fn put_number(out: &mut Vec<u8>, n: usize) -> Result<(), AllocError>
     ensures { Puts result out.old out.new (decimal n) }
 {
-    if n < 10 {
-        return put(out, &[b'0' + n as u8]);
-    }
-    let front = n / 10;
-    let last = b'0' + (n % 10) as u8;
-    if front < 10 {
-        return put(out, &[b'0' + front as u8, last]);
-    }
-    put_number(out, front / 10)?;
-    put(out, &[b'0' + (front % 10) as u8, last])
+    put(out, Buffer::new().format(n).as_bytes())
 }
 
 // Puts numbers, each after a space.
@@ -58,7 +50,7 @@ fn hex_digit(n: u32) -> u8
     if d < 10 { b'0' + d } else { b'a' - 10 + d }
 }
 
-// Puts a number in eight hexadecimal digits.
+// Puts a number in eight hexadecimal digits. A `format!` would allocate a text of its own.
 pub(crate) fn put_hex(out: &mut Vec<u8>, n: u32) -> Result<(), AllocError>
     ensures { Puts result out.old out.new (hex8 n) }
 {
@@ -102,7 +94,7 @@ fn put_escaped(out: &mut Vec<u8>, b: u8) -> Result<(), AllocError>
     put_hex_byte(out, u32::from(b))
 }
 
-// Whether each byte stands for itself. All are looked at, so that many can be at a time.
+// Whether each byte stands for itself. All are looked at, many at a time, which `all` cannot do.
 fn is_all_plain(text: &[u8]) -> bool
     ensures { result ≡ every plain_byte text.now }
 {

@@ -1,4 +1,4 @@
-use Rattle.std.proofs.Common.{◌≡◌, ℕ, List, length, take, drop, replicate, sym, ap, ◌∙◌, arith}
+use Rattle.std.proofs.Common.{◌≡◌, ℕ, List, length, replicate, sym, ap, ◌∙◌, arith}
 use Rattle.machine.specs.Fnv.{fnv_more}
 use Rattle.listing.proofs.Texts.{zeros_are}
 use Rattle.listing.proofs.Zeros.{store_hash}
