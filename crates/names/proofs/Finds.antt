@@ -1,20 +1,14 @@
 -- Names that are the same or not, and one step more of a search for one.
-use Rattle.std.proofs.Common.{◌≡◌, ℕ, ◌+◌, Bool, true, false, cond, List, [], ◌∷◌, map, reverse, is_some, Some, None, Option, sym, refl, ap, ◌∙◌, ⊎_elim, Bor}
+use Rattle.std.proofs.Common.{◌≡◌, ℕ, ◌+◌, Bool, true, false, cond, List, [], ◌∷◌, map, reverse, is_some, Some, None, Option, sym, refl, ap, ◌∙◌, Bor}
 use Rattle.std.specs.Str.{bytes_eq}
 use Rattle.std.specs.List.{find}
 use Rattle.std.specs.Option.{option_map, option_or, MatchOption, IsSomeAnd}
 use Rattle.std.proofs.lemmas.List.{reverse-append}
 use Rattle.std.proofs.lemmas.List.Folds.{find-append}
-use Rattle.std.proofs.lemmas.Bool.{cases_Bool}
-use Rattle.std.proofs.lemmas.Slice.Eq.{bytes_eq-Decides}
 use Rattle.cursor.specs.Told.{maybe}
 use Rattle.parts.specs.Parts.{entry_of}
 use Rattle.parts.specs.declared.kinds.Binding.{Binding}
 use Rattle.names.specs.Named.{place_from_on, last_from, last_of}
-
-pub not_same : (xs ys : List ℕ) → (xs ≡ ys → ⊥) → false ≡ bytes_eq xs ys
-not_same xs ys n =
-    ⊎_elim (λ t. absurd (n ((bytes_eq-Decides xs ys).0 t))) sym (cases_Bool (bytes_eq xs ys))
 
 -- a search among what is seen of each element
 pub place_map : {X Y : Type 0} (f : Y → List ℕ) (g : X → Y) (i : ℕ) (xs : List X) (n : List ℕ) → place_from_on f i (map g xs) n ≡ place_from_on (λ x. f (g x)) i xs n

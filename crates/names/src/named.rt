@@ -1,6 +1,5 @@
 // Names: where a list has one, and the last value that lines give to one.
 ghost use Rattle.std.specs.Prelude.{◌≡◌, ℕ, List, map};
-ghost use Rattle.std.specs.Str.{bytes_eq};
 ghost use Rattle.cursor.specs.Told.{maybe};
 ghost use Rattle.parts.specs.Parts.{entry_of};
 ghost use Rattle.names.specs.Named.{place_from_on, last_of};
@@ -41,33 +40,16 @@ impl Named for File {
     }
 }
 
-// Whether two texts are the same. Paths differ mostly in their lengths or near their ends, so those come first.
-fn same(a: &[u8], b: &[u8]) -> bool
-    ensures { result ≡ bytes_eq a.now b.now }
-{
-    if a.len() != b.len() {
-        return false;
-    }
-    if a.len() > 0 && a[a.len() - 1] != b[a.len() - 1] {
-        return false;
-    }
-    a == b
-}
-
 // The place of the first element of the name.
 pub fn place_of<T: Named>(all: &[T], name: &[u8]) -> Option<usize>
     ensures { result ≡ place_from_on T.named 0 all.now name.now }
 {
-    all.iter().position(|x| same(x.name(), name))
+    all.iter().position(|x| x.name() == name)
 }
 
 // The last value that lines give to a name.
 pub fn last_value<'a>(lines: &[Binding<'a>], name: &[u8]) -> Option<&'a [u8]>
     ensures { maybe (λ x. x.now) result ≡ last_of (map entry_of lines.now) name.now }
 {
-    lines
-        .iter()
-        .rev()
-        .find(|b| same(b.name, name))
-        .map(|b| b.value)
+    lines.iter().rev().find(|b| b.name == name).map(|b| b.value)
 }
