@@ -1,12 +1,12 @@
 -- The rows of a table as the code holds them.
-use Rattle.std.proofs.Common.{◌≡◌, ℕ, ◌+◌, ◌<◌, Bool, List, [], ◌∷◌, ◌++◌, map, length, get_or, take, drop, set, vec_items, vec_len, Vec, sym, ap, ◌∙◌, subst, zero-add, arith}
-use Rattle.std.proofs.lemmas.List.{length-map, map_push, map-set, get_or-map, take_at}
+use Rattle.std.proofs.Common.{◌≡◌, ℕ, ◌+◌, ◌<◌, Bool, List, [], ◌++◌, map, length, get_or, take, drop, set, vec_items, vec_len, Vec, sym, ap, ◌∙◌, subst, zero-add, arith}
+use Rattle.std.proofs.lemmas.List.{length-map, map-set, get_or-map, take_at}
 use Rattle.std.proofs.lemmas.List.FromFn.{fill_by_all}
 use Rattle.std.specs.declared.alloc.Global.{Global}
 use Rattle.graph.specs.Data.{FileData, EdgeData}
 use Rattle.graph.specs.Rows.{bit, row_at, set_bits, Row, Square, Table, Passed, passed}
 use Rattle.graph.specs.Circle.{reaches, least, count_of, circle_of, rank_of, ranks_of}
-use Rattle.graph.proofs.Tables.{Filled, filled_more, Passing, passing_more}
+use Rattle.graph.proofs.Tables.{Passing, passing_more}
 use Rattle.std.specs.List.{position, enumerate_from}
 use Rattle.std.proofs.lemmas.List.FromFn.{length-enumerate_from, get_or-enumerate_from}
 use mathlib.Core.List.{map-map}
@@ -18,10 +18,6 @@ refill n ws xs e = take_at ws (drop (length ws) xs) n e
 
 pub row_held : (rows : List (Vec Bool Global)) (i : ℕ) (x : Vec Bool Global) → i < length rows → x ≡ get_or rows i x → row_at (map vec_items rows) i ≡ vec_items x
 row_held rows i x h e = get_or-map vec_items rows i x [] h ∙ sym (ap vec_items e)
-
-pub filled_push : (n : ℕ) (p : ℕ → ℕ → Bool) (rows rows' : List (Vec Bool Global)) (i : ℕ) (v : Vec Bool Global) → rows' ≡ rows ++ v ∷ [] → Filled n p (map vec_items rows) i → Row n (p i) (vec_items v) → Filled n p (map vec_items rows') (i + 1)
-filled_push n p rows rows' i v e h w =
-    subst (λ xs. Filled n p xs (i + 1)) (sym (ap (map vec_items) e ∙ map_push vec_items rows v)) (filled_more n p (map vec_items rows) i (vec_items v) h w)
 
 module _ (n k : ℕ) (other : List Bool) (before : List (List Bool)) (rows : List (Vec Bool Global)) (i : ℕ) (x : Vec Bool Global) (h : Passing n k other before (map vec_items rows) i) (l : i < length rows) (e : x ≡ get_or rows i x) where
   pub passing_wide : Square n before → vec_len (get_or rows i x) ≡ n

@@ -1,10 +1,8 @@
 -- The table of what reaches what, from the edges that each edge needs, one more edge on the way at a time.
-use Rattle.std.proofs.Common.{◌≡◌, ℕ, ◌+◌, ◌<◌, ◌≤◌, Bool, ◌&&◌, ◌||◌, List, [], ◌∷◌, ◌++◌, map, length, get_or, set, sym, refl, ap, ◌∙◌, subst, ⊎_elim, add-one, arith}
-use Rattle.std.proofs.lemmas.List.{length-map, length-set, length_push, get_or-map, get_or-set_same, get_or-set_other, get_or_append_left, get_or_push}
-use Rattle.std.proofs.lemmas.Bool.{cases_lt, lt-ltb}
-use Rattle.graph.specs.declared.kinds.Edge.{Edge}
-use Rattle.graph.specs.Data.{FileData, edge_of, no_edge, edge_at}
-use Rattle.graph.specs.Circle.{makes_one, inputs_of, needs, via}
+use Rattle.std.proofs.Common.{◌≡◌, ℕ, ◌+◌, ◌<◌, ◌≤◌, Bool, ◌&&◌, ◌||◌, List, [], length, set, sym, ap, ◌∙◌, subst, ⊎_elim, add-one, arith}
+use Rattle.std.proofs.lemmas.List.{length-set, get_or-set_same, get_or-set_other}
+use Rattle.std.proofs.lemmas.Bool.{cases_lt}
+use Rattle.graph.specs.Circle.{via}
 use Rattle.graph.specs.Rows.{bit, row_at, Row, Table, Passed, passed}
 
 -- the first rows of a table
@@ -13,35 +11,11 @@ pub record Filled (n : ℕ) (p : ℕ → ℕ → Bool) (rows : List (List Bool))
   pub row : (a : ℕ) → a < i → Row n (p a) (row_at rows a)
 
 module _ (n : ℕ) (p : ℕ → ℕ → Bool) where
-  pub filled_none : Filled n p [] 0
-  filled_none = record { tall = refl; row = λ a h. absurd (omega arith) }
-
-  pub filled_more : (rows : List (List Bool)) (i : ℕ) (r : List Bool) → Filled n p rows i → Row n (p i) r → Filled n p (rows ++ r ∷ []) (i + 1)
-  filled_more rows i r h new = record {
-    tall = length_push rows r ∙ ap (λ x. x + 1) h.tall;
-    row = λ a lt. ⊎_elim
-        (λ low. subst (Row n (p a)) (sym (get_or_append_left rows (r ∷ []) [] a (omega (arith, h.tall)))) (h.row a low))
-        (λ high.
-        let same : i ≡ a = omega arith in
-        subst (λ x. Row n (p x) (row_at (rows ++ r ∷ []) x)) same (subst (Row n (p i)) (sym (get_or_push rows r [] i h.tall)) new))
-        (cases_lt a i);
-  }
-
   pub filled_all : (rows : List (List Bool)) (i : ℕ) → Filled n p rows i → n ≡ i → Table n p rows
   filled_all rows i h e = record {
     square = record { tall = h.tall ∙ sym e; wide = λ a lt. (h.row a (omega arith)).wide };
     bits = λ a b lt. (h.row a (omega arith)).bits b;
   }
-
--- the row of an edge
-pub needs_row : (fs : List FileData) (edges : List Edge) (i : ℕ) (x : Edge) (n : ℕ) (r : List Bool) → i < length edges → n ≡ length edges → x ≡ get_or edges i x → Row n (λ d. makes_one fs d (inputs_of (edge_of x))) r → Row n (needs fs (map edge_of edges) i) r
-needs_row fs edges i x n r h l e w = record {
-  wide = w.wide;
-  bits = λ d lt.
-      w.bits d lt
-      ∙ ap (λ y. makes_one fs d (inputs_of y)) (ap edge_of e ∙ sym (get_or-map edge_of edges i x no_edge h))
-      ∙ ap (λ t. t && makes_one fs d (inputs_of (edge_at (map edge_of edges) i))) (sym (lt-ltb d (length (map edge_of edges)) (omega (arith, length-map edges edge_of))));
-}
 
 -- the rows below i are passed, the others as they were
 pub record Passing (n k : ℕ) (other : List Bool) (before rows : List (List Bool)) (i : ℕ) : Type 0 where
@@ -50,9 +24,6 @@ pub record Passing (n k : ℕ) (other : List Bool) (before rows : List (List Boo
   pub left : (a : ℕ) → i ≤ a → row_at rows a ≡ row_at before a
 
 module _ (n k : ℕ) (other : List Bool) (before : List (List Bool)) where
-  pub passing_none : Passing n k other before before 0
-  passing_none = record { tall = refl; done = λ a h. absurd (omega arith); left = λ a h. refl }
-
   pub passing_more : (rows : List (List Bool)) (i : ℕ) (r : List Bool) → Passing n k other before rows i → i < length rows → Row n (passed k other (row_at rows i)) r → Passing n k other before (set rows i r) (i + 1)
   passing_more rows i r h l new = record {
     tall = length-set rows i r ∙ h.tall;
@@ -65,9 +36,6 @@ module _ (n k : ℕ) (other : List Bool) (before : List (List Bool)) where
         (cases_lt a i);
     left = λ a le. get_or-set_other rows i a r [] (λ e. omega arith) ∙ h.left a (omega arith);
   }
-
-  pub passing_all : (rows : List (List Bool)) (i : ℕ) → Passing n k other before rows i → length before ≤ i → Passed n k other before rows
-  passing_all rows i h le = record { tall = h.tall; row = λ a lt. h.done a (omega arith) }
 
 -- the edge k may stand on the way too: its own row and column stay as they are
 pub table_more : (n : ℕ) (R : ℕ → ℕ → Bool) (k : ℕ) (before rows : List (List Bool)) → k < n → Table n (via R k) before → Passed n k (row_at before k) before rows → Table n (via R (k + 1)) rows

@@ -54,13 +54,19 @@ fn mark(files: &[File], inputs: &[usize], row: &mut [bool])
     }
 }
 
-// The edges that an edge needs, of n.
-fn first_row(heap: Global, files: &[File], edge: &Edge, n: usize) -> Result<Vec<bool>, AllocError>
-    ensures { IfOk result (λ v. Row n (λ d. makes_one (map file_of files.now) d (inputs_of (edge_of edge.now))) v.items) }
+// The edges that make one of the files, of n.
+fn makers_row(
+    heap: Global,
+    files: &[File],
+    reads: &[usize],
+    order_only: &[usize],
+    n: usize,
+) -> Result<Vec<bool>, AllocError>
+    ensures { IfOk result (λ v. Row n (λ d. makes_one (map file_of files.now) d (reads.now ++ order_only.now)) v.items) }
 {
     let mut row = vec![in heap; false; n]?;
-    mark(files, &edge.reads, &mut row);
-    mark(files, &edge.order_only, &mut row);
+    mark(files, reads, &mut row);
+    mark(files, order_only, &mut row);
     Ok(row)
 }
 
@@ -70,7 +76,7 @@ fn first_rows(heap: Global, files: &[File], edges: &[Edge]) -> Result<Vec<Vec<bo
 {
     let mut rows = Vec::new(heap);
     for edge in edges {
-        rows.push(first_row(heap, files, edge, edges.len())?)?;
+        rows.push(makers_row(heap, files, &edge.reads, &edge.order_only, edges.len())?)?;
     }
     Ok(rows)
 }
@@ -80,7 +86,7 @@ fn join(row: &mut [bool], other: &[bool])
     requires { length row.old ≡ length other.now }
     ensures { (d : ℕ) → d < length row.old → bit row.new d ≡ (bit row.old d || bit other.now d) }
 {
-    // No `zip`: a proof does not know what is written through an adapter of `iter_mut`.
+    // By number, and no `zip`: a proof does not know what is written through an `iter_mut` inside a `zip`.
     for (j, b) in row.iter_mut().enumerate() {
         *b |= other[j];
     }
@@ -138,14 +144,28 @@ fn ranks(heap: Global, rows: &[Vec<bool>]) -> Result<Vec<usize>, AllocError>
         .collect(heap)
 }
 
+// The answer that the table of what reaches what gives. The files and edges are there for the contract.
+fn answer(
+    heap: Global,
+    files: &[File],
+    edges: &[Edge],
+    rows: &[Vec<bool>],
+) -> Result<Vec<usize>, Unranked>
+    requires { Table (length (map edge_of edges.now)) (reaches (map file_of files.now) (map edge_of edges.now)) (map vec_items rows.now) }
+    ensures says { Says (map file_of files.now) (map edge_of edges.now) result }
+    ensures law { Tells (map file_of files.now) (map edge_of edges.now) result }
+{
+    if let Some(c) = lowest(rows) {
+        return Err(Unranked::Circle(c));
+    }
+    Ok(ranks(heap, rows)?)
+}
+
 // How many edges each edge reaches, or the lowest edge on a circle. Order-only inputs count, validations do not.
 pub fn order(heap: Global, files: &[File], edges: &[Edge]) -> Result<Vec<usize>, Unranked>
     ensures says { Says (map file_of files.now) (map edge_of edges.now) result }
     ensures law { Tells (map file_of files.now) (map edge_of edges.now) result }
 {
     let rows = closed_rows(heap, files, edges)?;
-    if let Some(c) = lowest(&rows) {
-        return Err(Unranked::Circle(c));
-    }
-    Ok(ranks(heap, &rows)?)
+    answer(heap, files, edges, &rows)
 }

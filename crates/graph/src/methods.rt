@@ -1,6 +1,7 @@
 // What is read off a graph.
 ghost use Rattle.std.specs.Prelude.{◌≡◌, ℕ, ◌<◌, [], map, length, MatchOption, slice_index};
-ghost use Rattle.std.specs.List.{slice_get};
+ghost use Rattle.std.specs.List.{position, slice_get};
+ghost use Rattle.std.specs.Str.{bytes_eq};
 ghost use Rattle.std.specs.Option.{option_map};
 ghost use Rattle.graph.specs.Data.{GraphData, file_of, edge_of, pool_of, no_edge, edge_at, data_of};
 ghost use Rattle.graph.specs.Lawful.{Lawful};
@@ -9,6 +10,13 @@ ghost use Rattle.graph.specs.Graphs.{graph_of, question_at, SameAction, file_nam
 use crate::kinds::{Edge, File, Pool};
 use crate::whole::Graph;
 use std::alloc::Global;
+
+// The place of the first file with a path.
+fn place_of(files: &[File], path: &[u8]) -> Option<usize>
+    ensures { result ≡ position (λ file. bytes_eq file.path.items path.now) files.now }
+{
+    files.iter().position(|file| file.path.as_slice() == path)
+}
 
 impl Graph {
     // A graph with nothing in it.
@@ -71,9 +79,14 @@ impl Graph {
         ensures says { result ≡ file_named (graph_of self.now).files path.now }
         ensures law { Named (graph_of self.now).files path.now result }
     {
-        self.files
-            .iter()
-            .position(|file| file.path.as_slice() == path)
+        place_of(&self.files, path)
+    }
+
+    // The question, as bytes.
+    fn text(&self, e: usize) -> &[u8]
+        ensures { result.now ≡ question_at (graph_of self.now) e }
+    {
+        self.edge(e).map_or(&[], |x| &x.question)
     }
 
     // The question of an edge. An edge of this graph or of another that asks the same does the same.
@@ -81,6 +94,6 @@ impl Graph {
         ensures value { result.now ≡ question_at (graph_of self.now) e }
         ensures tells { (h : GraphData) (d : ℕ) → Lawful h → e < length (graph_of self.now).edges → d < length h.edges → question_at h d ≡ result.now → SameAction (graph_of self.now) e h d }
     {
-        self.edge(e).map_or(&[], |x| &x.question)
+        self.text(e)
     }
 }

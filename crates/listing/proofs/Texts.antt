@@ -1,8 +1,10 @@
 -- Numbers and texts, piece by piece.
-use Rattle.std.proofs.Common.{◌≡◌, ℕ, suc, ◌+◌, ◌/◌, ◌%◌, ◌^◌, ◌<◌, ◌≤◌, Bool, true, false, ◌&&◌, eqb, List, [], ◌∷◌, ◌++◌, length, get_or, take, drop, replicate, decimal, sym, refl, ap, ◌∙◌, inl, inr, append_assoc, append-nil, add-one, arith}
+use Rattle.std.proofs.Common.{◌≡◌, ℕ, suc, ◌+◌, ◌/◌, ◌%◌, ◌^◌, ◌<◌, ◌≤◌, Bool, true, false, ◌&&◌, eqb, List, [], ◌∷◌, ◌++◌, length, get_or, take, drop, replicate, decimal, sym, refl, ap, ◌∙◌, not, Some, None, ⊎_elim, inl, inr, append_assoc, append-nil, add-one, arith}
 use Rattle.std.proofs.lemmas.Fmt.{decimal_digit, decimal_step}
 use Rattle.std.proofs.lemmas.List.{drop_more, drop_all}
-use Rattle.std.proofs.lemmas.Bool.{cases_Bool, cond-true, cond-false, and_parts, eqb-true}
+use Rattle.std.proofs.lemmas.Bool.{cases_Bool, cases_lt, lt-ltb, le-ltb, cond-true, cond-false, and_parts, eqb-true, eqb-false}
+use Rattle.std.specs.List.{fold, position, position_or_len}
+use Rattle.std.proofs.lemmas.List.Recursion.{is_position_or_len}
 use Rattle.machine.specs.Fnv.{command_text}
 use Rattle.listing.specs.Listing.{plain_byte, zero_byte, every, plain_len, escaped, shown, spaced, numbers}
 
@@ -30,12 +32,10 @@ numbers_more ns i h = ap numbers (drop_more ns i 0 h)
 pub numbers_none : (ns : List ℕ) (i : ℕ) → length ns ≤ i → numbers (drop i ns) ≡ []
 numbers_none ns i h = ap numbers (drop_all i ns h)
 
--- a test of all bytes, as far as it went: have says whether those before passed
-pub every_more : (test : ℕ → Bool) (s : List ℕ) (i : ℕ) (have : Bool) → i < length s → ((have && test (get_or s i 0)) && every test (drop (i + 1) s)) ≡ (have && every test (drop i s))
-every_more test s i have h = and_assoc have (test (get_or s i 0)) (every test (drop (i + 1) s)) ∙ ap (λ t. have && every test t) (sym (drop_more s i 0 h))
-
-pub every_all : (test : ℕ → Bool) (s : List ℕ) (i : ℕ) (have : Bool) → length s ≤ i → (have && every test (drop i s)) ≡ have
-every_all test s i have h = ap (λ t. have && every test t) (drop_all i s h) ∙ and_true have
+-- a test of all bytes, one after another
+pub every_folded : (test : ℕ → Bool) (s : List ℕ) (have : Bool) → fold (λ a x. a && test x) have s ≡ (have && every test s)
+every_folded test [] have = sym (and_true have)
+every_folded test (b ∷ s) have = every_folded test s (have && test b) ∙ and_assoc have (test b) (every test s)
 
 pub shown_plain : (s : List ℕ) → every plain_byte s ≡ true → shown s ≡ s
 shown_plain [] h = refl
@@ -49,16 +49,6 @@ zeros_are (b ∷ s) h =
     let p = and_parts (zero_byte b) (every zero_byte s) h in
     let e : b ≡ 0 = eqb-true b 0 p.0 in
     ap (λ x. x ∷ s) e ∙ ap (λ t. 0 ∷ t) (zeros_are s p.1)
-
--- the plain bytes at a place
-pub plain_stop : (s : List ℕ) (i : ℕ) → i < length s → plain_byte (get_or s i 0) ≡ false → plain_len (drop i s) ≡ 0
-plain_stop s i h p = ap plain_len (drop_more s i 0 h) ∙ cond-false (plain_byte (get_or s i 0)) _ _ p
-
-pub plain_more : (s : List ℕ) (i : ℕ) → i < length s → plain_byte (get_or s i 0) ≡ true → plain_len (drop i s) ≡ suc (plain_len (drop (i + 1) s))
-plain_more s i h p = ap plain_len (drop_more s i 0 h) ∙ cond-true (plain_byte (get_or s i 0)) _ _ p
-
-pub plain_all : (s : List ℕ) (i : ℕ) → length s ≤ i → plain_len (drop i s) ≡ 0
-plain_all s i h = ap plain_len (drop_all i s h)
 
 pub plain_le : (s : List ℕ) → plain_len s ≤ length s
 plain_le [] = omega arith
@@ -82,12 +72,32 @@ shown_next (b ∷ s) h = elim (cases_Bool (plain_byte b)) [
   | inr f ↦ rw f (rw f)
 ]
 
--- the last run of a text
-pub shown_all : (s w : List ℕ) (n : ℕ) → n ≡ plain_len s → length s ≤ n → w ≡ take n s → shown s ≡ w
-shown_all s w n e h k =
-    shown_run s
-    ∙ (ap (λ i. take i s ++ shown (drop i s)) (sym e)
-    ∙ (ap (λ t. take n s ++ shown t) (drop_all n s h) ∙ (append-nil (take n s) ∙ sym k)))
+-- a text of plain bytes alone
+pub shown_whole : (s : List ℕ) → length s ≤ plain_len s → shown s ≡ s
+shown_whole [] h = refl
+shown_whole (b ∷ s) h = elim (cases_Bool (plain_byte b)) [
+  | inl t ↦ let k : length s ≤ plain_len s = omega (arith, rw t at h) in rw (t, shown_whole s k)
+  | inr f ↦ absurd (omega (arith, rw f at h))
+]
+
+-- the place of the first byte that is not plain
+plain_prefix : (s : List ℕ) → plain_len s ≡ position_or_len (λ b. not (plain_byte b)) s
+plain_prefix s = is_position_or_len plain_len (λ b. not (plain_byte b)) refl (λ b t. elim (cases_Bool (plain_byte b)) [ inl h ↦ rw h (omega arith) | inr h ↦ rw h refl ]) s
+
+pub placed_none : (s : List ℕ) → position (λ b. not (plain_byte b)) s ≡ None → length s ≤ plain_len s
+placed_none s e = ⊎_elim
+    (λ (l : position_or_len (λ b. not (plain_byte b)) s < length s). let h : Some (position_or_len (λ b. not (plain_byte b)) s) ≡ None = sym (cond-true _ _ _ (lt-ltb _ _ l)) ∙ e in absurd (cc))
+    (λ h. omega (arith, plain_prefix s))
+    (cases_lt (position_or_len (λ b. not (plain_byte b)) s) (length s))
+
+pub placed_some : (s : List ℕ) (n : ℕ) → position (λ b. not (plain_byte b)) s ≡ Some n → (n ≡ plain_len s) × (n < length s)
+placed_some s n e = ⊎_elim
+    (λ (l : position_or_len (λ b. not (plain_byte b)) s < length s).
+    let h : Some (position_or_len (λ b. not (plain_byte b)) s) ≡ Some n = sym (cond-true _ _ _ (lt-ltb _ _ l)) ∙ e in
+    let k : position_or_len (λ b. not (plain_byte b)) s ≡ n = cc in
+    (sym k ∙ sym (plain_prefix s), omega arith))
+    (λ h. let k : position (λ b. not (plain_byte b)) s ≡ None = cond-false _ _ _ (le-ltb _ _ h) in let m : None ≡ Some n = sym k ∙ e in absurd (cc))
+    (cases_lt (position_or_len (λ b. not (plain_byte b)) s) (length s))
 
 -- a run of a text, and the byte that ends it
 pub shown_turn : (s w t : List ℕ) (n : ℕ) → n ≡ plain_len s → n < length s → w ≡ take n s → t ≡ drop (n + 1) s → shown s ≡ (w ++ escaped (get_or s n 0)) ++ shown t
@@ -110,8 +120,8 @@ command_le [] = omega arith
 command_le (b ∷ q) = elim (cases_Bool (eqb b 0)) [ inl t ↦ rw t (omega arith) | inr f ↦ rw f (let h = command_le q in omega arith) ]
 
 -- a text that is not empty
-pub spaced_some : (s : List ℕ) → 0 < length s → spaced s ≡ (32 ∷ []) ++ shown s
-spaced_some [] h = absurd (omega arith)
+pub spaced_some : (s : List ℕ) → eqb (length s) 0 ≡ false → spaced s ≡ (32 ∷ []) ++ shown s
+spaced_some [] h = absurd (eqb-false 0 0 h refl)
 spaced_some (b ∷ s) h = refl
 
 pub spaced_none : (s : List ℕ) → length s ≡ 0 → spaced s ≡ []

@@ -9,11 +9,7 @@ const PRIME: u32 = 16_777_619;
 fn is_blank(s: &[u8]) -> bool
     ensures { result ≡ every zero_byte s.now }
 {
-    let mut all = true;
-    for b in s {
-        all &= *b == 0;
-    }
-    all
+    s.iter().fold(true, |all, b| all & (*b == 0))
 }
 
 // A hash with zeros more: each is a factor of the prime.
@@ -27,12 +23,11 @@ fn with_zeros(hash: u32, count: u32) -> u32
 pub(crate) fn store_hash(store: &[u8], used: usize) -> u32
     ensures { result ≡ fnv_1a store.now }
 {
-    if used > store.len() {
-        return machine::fnv1a(store);
+    if let Some((head, rest)) = store.split_at_checked(used)
+        && let Ok(count) = u32::try_from(rest.len())
+        && is_blank(rest)
+    {
+        return with_zeros(machine::fnv1a(head), count);
     }
-    let zeros = &store[used..];
-    if zeros.len() > 0xffff_ffff || !is_blank(zeros) {
-        return machine::fnv1a(store);
-    }
-    with_zeros(machine::fnv1a(&store[0..used]), zeros.len() as u32)
+    machine::fnv1a(store)
 }

@@ -9,6 +9,7 @@ ghost use Rattle.std.specs.Prelude.{◌≡◌, map};
 ghost use Rattle.graph.specs.Data.{file_of, pool_of, edge_of};
 ghost use Rattle.listing.specs.Listing.{listing_of, refusal_line, Shows};
 
+use crate::lines::{put_all, put_store};
 use graph::{Edge, File, Pool};
 use std::alloc::{AllocError, Global};
 
@@ -27,7 +28,10 @@ pub fn listing(
     ensures { Shows result (listing_of (map file_of files.now) (map pool_of pools.now) (map edge_of edges.now) used store.now) }
 {
     let mut out = Vec::with_capacity(heap, ROOM)?;
-    lines::put_graph(&mut out, files, pools, edges, store, used)?;
+    put_all(&mut out, files)?;
+    put_all(&mut out, pools)?;
+    put_all(&mut out, edges)?;
+    put_store(&mut out, store, used)?;
     Ok(out)
 }
 
@@ -35,7 +39,5 @@ pub fn listing(
 pub fn refusal_line(heap: Global, number: usize, place: usize) -> Result<Vec<u8>, AllocError>
     ensures { Shows result (refusal_line number place) }
 {
-    let mut out = Vec::new(heap);
-    lines::put_refusal(&mut out, number, place)?;
-    Ok(out)
+    Ok(format!(in heap; "refused {number} at {place}\n")?.into_bytes())
 }

@@ -1,5 +1,6 @@
 // What the lines are put together from: numbers and texts.
-ghost use Rattle.std.specs.Prelude.{◌≡◌, ℕ, ◌%◌, Bool, List, [], ◌∷◌, decimal};
+ghost use Rattle.std.specs.List.{position};
+ghost use Rattle.std.specs.Prelude.{not, ◌≡◌, ℕ, ◌%◌, Bool, List, [], ◌∷◌, decimal};
 ghost use Rattle.listing.specs.Listing.{hex_digit, hex2, hex8, plain_byte, escaped, shown, every, plain_len, spaced, numbers, Puts};
 
 use std::alloc::AllocError;
@@ -83,16 +84,11 @@ fn is_plain(b: u8) -> bool
     32 <= b && (b <= 126 && b != b'\\')
 }
 
-// How many plain bytes a text begins with.
-fn plain_len(text: &[u8]) -> usize
-    ensures { result ≡ plain_len text.now }
+// The place of the first byte that does not stand for itself.
+fn first_escaped(text: &[u8]) -> Option<usize>
+    ensures { result ≡ position (λ b. not (plain_byte b)) text.now }
 {
-    for (i, b) in text.iter().enumerate() {
-        if !is_plain(*b) {
-            return i;
-        }
-    }
-    text.len()
+    text.iter().position(|b| !is_plain(*b))
 }
 
 // Puts a byte that does not stand for itself.
@@ -110,11 +106,7 @@ fn put_escaped(out: &mut Vec<u8>, b: u8) -> Result<(), AllocError>
 fn is_all_plain(text: &[u8]) -> bool
     ensures { result ≡ every plain_byte text.now }
 {
-    let mut all = true;
-    for b in text {
-        all &= is_plain(*b);
-    }
-    all
+    text.iter().fold(true, |all, b| all & is_plain(*b))
 }
 
 // Puts a text, each run of plain bytes at once.
@@ -122,22 +114,19 @@ fn put_shown(out: &mut Vec<u8>, text: &[u8]) -> Result<(), AllocError>
     ensures { Puts result out.old out.new (shown text.now) }
 {
     let mut rest = text;
-    loop {
-        let n = plain_len(rest);
-        put_long(out, &rest[0..n])?;
-        if n >= rest.len() {
-            return Ok(());
-        }
+    while let Some(n) = first_escaped(rest) {
+        put_long(out, &rest[..n])?;
         put_escaped(out, rest[n])?;
         rest = &rest[n + 1..];
     }
+    put_long(out, rest)
 }
 
 // Puts a text after a space, and nothing for an empty one.
 pub(crate) fn put_text(out: &mut Vec<u8>, text: &[u8]) -> Result<(), AllocError>
     ensures { Puts result out.old out.new (spaced text.now) }
 {
-    if text.len() == 0 {
+    if text.is_empty() {
         return Ok(());
     }
     out.push(b' ')?;

@@ -6,7 +6,6 @@ use Rattle.graph.proofs.Tables.{table_more}
 use Rattle.graph.proofs.Held.{refill, height, table_passed}
 use Rattle.graph.proofs.circle.closed_rows.Goals as goal
 
-
 pub pass-requires : goal.pass-requires
 pass-requires c =
     let n = length c.args.edges.now in

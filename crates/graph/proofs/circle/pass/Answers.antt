@@ -2,7 +2,6 @@ use Rattle.std.proofs.Common.{length, vec_items, get_or, arith}
 use Rattle.graph.proofs.Held.{row_wide, passing_wide, passing_set, row_written}
 use Rattle.graph.proofs.circle.pass.Goals as goal
 
-
 pub pass_row-requires : goal.pass_row-requires
 pass_row-requires c =
     let wide = passing_wide _ _ _ _ c.loop-row.rows c.loop-row.row-index c.row-item.result c.loop-row.invariant (omega arith) c.row-item.is c.requires.0 in

@@ -1,10 +1,11 @@
-use Rattle.std.proofs.Common.{sym, ◌∙◌}
+use Rattle.std.proofs.Common.{true, ◌&&◌, rules, tests, ◌∙◌}
+use Rattle.std.proofs.lemmas.Iterator.{YieldsList-from_slice}
+use Rattle.std.proofs.lemmas.Iterator.Consumers.{fold_from_yields_List}
 use Rattle.listing.specs.Listing.{zero_byte}
-use Rattle.listing.proofs.Texts.{every_more, every_all}
+use Rattle.listing.proofs.Texts.{every_folded}
 use Rattle.listing.proofs.hash.is_blank.Goals as goal
 
-pub loop-b-preserved : goal.loop-b-preserved
-loop-b-preserved c = every_more zero_byte c.args.s.now c.loop-b.b-index c.loop-b.all c.loop-b-test.true ∙ c.loop-b.invariant
-
 pub returns : goal.returns
-returns c = sym (every_all zero_byte c.args.s.now c.loop-b.b-index c.loop-b.all c.loop-b-test.false) ∙ c.loop-b.invariant
+returns c =
+    fold_from_yields_List _ (λ a x. a && zero_byte x) true c.fold.result c.fold.ensures.ran (YieldsList-from_slice _ c.iter.ensures.rest) (λ a x b q k. search (rules, tests))
+    ∙ every_folded zero_byte c.args.s.now true

@@ -1,14 +1,11 @@
 use Rattle.std.proofs.Common.{◌≤◌, length, take, ap, ◌∙◌, arith, rules}
-use native.Mathlib.Nat.{sub-zero}
 use Rattle.listing.proofs.Texts.{command_front, command_le}
 use Rattle.listing.proofs.lines.command.Goals as goal
 
 pub slice_bounds-result-end : goal.slice_bounds-result-end
 slice_bounds-result-end c =
-    let h : c.command_len-len.result ≤ length c.args.question.now = omega (arith, command_le c.args.question.now, c.command_len-len.ensures) in
+    let h : c.command_len.result ≤ length c.args.question.now = omega (arith, command_le c.args.question.now, c.command_len.ensures) in
     search rules
 
 pub returns : goal.returns
-returns c =
-    ap (λ n. take n c.args.question.now) (sub-zero c.command_len-len.result ∙ c.command_len-len.ensures)
-    ∙ command_front c.args.question.now
+returns c = ap (λ n. take n c.args.question.now) c.command_len.ensures ∙ command_front c.args.question.now

@@ -1,12 +1,11 @@
-use Rattle.std.proofs.Common.{◌+◌, ◌&&◌, drop, sym, ap, ◌∙◌}
-use Rattle.listing.specs.Listing.{plain_byte, every}
-use Rattle.listing.proofs.Texts.{every_more, every_all}
+use Rattle.std.proofs.Common.{true, ◌&&◌, rules, tests, ◌∙◌}
+use Rattle.std.proofs.lemmas.Iterator.{YieldsList-from_slice}
+use Rattle.std.proofs.lemmas.Iterator.Consumers.{fold_from_yields_List}
+use Rattle.listing.specs.Listing.{plain_byte}
+use Rattle.listing.proofs.Texts.{every_folded}
 use Rattle.listing.proofs.words.is_all_plain.Goals as goal
 
-pub loop-b-preserved : goal.loop-b-preserved
-loop-b-preserved c =
-    ap (λ t. (c.loop-b.all && t) && every plain_byte (drop (c.loop-b.b-index + 1) c.args.text.now)) c.is_plain-all.ensures
-    ∙ (every_more plain_byte c.args.text.now c.loop-b.b-index c.loop-b.all c.loop-b-test.true ∙ c.loop-b.invariant)
-
 pub returns : goal.returns
-returns c = sym (every_all plain_byte c.args.text.now c.loop-b.b-index c.loop-b.all c.loop-b-test.false) ∙ c.loop-b.invariant
+returns c =
+    fold_from_yields_List _ (λ a x. a && plain_byte x) true c.fold.result c.fold.ensures.ran (YieldsList-from_slice _ c.iter.ensures.rest) (λ a x b q k. search (rules, tests))
+    ∙ every_folded plain_byte c.args.text.now true
