@@ -1,5 +1,5 @@
 // The lines of blocks: those of a build statement, and the depth lines of a pool.
-ghost use Rattle.std.specs.Prelude.{◌≡◌, [], map};
+ghost use Rattle.std.specs.Prelude.{[], map};
 ghost use Rattle.expansion.specs.Meaning.{texts_of, read_of};
 ghost use Rattle.expansion.specs.Model.{set_block};
 ghost use Rattle.parts.specs.Parts.{entry_of};

@@ -1,6 +1,5 @@
 // Why a manifest is refused, with the place, and why a call that allocates answers nothing.
 ghost use Rattle.std.specs.Prelude.{◌≡◌};
-ghost use Rattle.parts.specs.declared.refusal.Refusal.{Refusal as TextRefusal};
 ghost use Rattle.parts.specs.declared.refusal.Refusal.TheVariants.{Faulty as BadText, Memory as NoMemory};
 ghost use Rattle.reader.specs.declared.fault.Fault.TheVariants.{Text};
 ghost use Rattle.reader.specs.declared.fault.Refusal.TheVariants.{Faulty, Memory};

@@ -1,7 +1,5 @@
 // The load of a manifest: its graph and text store, or its first fault.
-ghost use Rattle.std.specs.Prelude.{◌≡◌};
-ghost use Rattle.text.specs.Text.{checked};
-ghost use Rattle.store.specs.Stores.{used_of, bytes_of};
+ghost use Rattle.store.specs.Stores.{used_of};
 ghost use Rattle.graph.specs.Graphs.{graph_of};
 ghost use Rattle.draft.specs.Drafts.{state_of};
 ghost use Rattle.reader.specs.Load.{finish, load_of};

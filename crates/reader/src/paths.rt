@@ -1,8 +1,7 @@
 // The paths of an edge's files, joined: for `in` and `out`, and in its question.
-ghost use Rattle.std.specs.Prelude.{◌≡◌, [], ◌∷◌, ◌++◌, map, take};
+ghost use Rattle.std.specs.Prelude.{◌++◌, map, take};
 ghost use Rattle.std.specs.List.{flat_map};
 ghost use Rattle.graph.specs.Data.{file_of, edge_of, path_at};
-ghost use Rattle.graph.specs.Question.{question_of};
 ghost use Rattle.reader.specs.Values.{spaced, paths_at, in_text, out_text};
 ghost use Rattle.reader.specs.Told.{Puts, Makes, Asks};
 

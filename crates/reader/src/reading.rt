@@ -1,5 +1,4 @@
 // All statements of a manifest, each read whole and then looked at.
-ghost use Rattle.std.specs.Prelude.{◌≡◌};
 ghost use Rattle.text.specs.Text.{stated_of, checked};
 ghost use Rattle.draft.specs.Drafts.{state_of};
 ghost use Rattle.draft.specs.Statements.{add};
