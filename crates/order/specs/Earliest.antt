@@ -27,6 +27,12 @@ abbrev pub earliest_place : {X : Type 0} → (X → X → Bool) → List X → O
 earliest_place before [] = None
 earliest_place before (x ∷ xs) = Some (earliest_from before x 0 1 xs)
 
+-- place r holds a record that no record precedes, and every record at a lower place comes after it
+pub record Leads {X : Type 0} (before : X → X → Bool) (xs : List X) (r : ℕ) : Type 0 where
+  pub within : r < length xs
+  pub unpreceded : (k : ℕ) (d : X) → k < length xs → before (slice_index_or xs k d) (slice_index_or xs r d) ≡ false
+  pub first : (k : ℕ) (d : X) → k < r → before (slice_index_or xs r d) (slice_index_or xs k d) ≡ true
+
 -- place r holds a record that no record precedes; every other such record is the same, and none stands before r
 pub record Earliest {X : Type 0} (before : X → X → Bool) (xs : List X) (r : ℕ) : Type 0 where
   pub within : r < length xs

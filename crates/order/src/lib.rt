@@ -2,11 +2,12 @@
 #![tactic(auto)]
 
 ghost use Rattle.std.specs.Prelude.{◌≡◌, ℕ, ◌<◌, length, false, IfSome, MatchOption, slice_index_or};
-ghost use Rattle.order.specs.Earliest.{Earliest, TellsApart, comes_before, earliest_place, stands_before};
+ghost use Rattle.order.specs.Earliest.{Earliest, Leads, TellsApart, comes_before, earliest_place, stands_before};
 
 // The place of the earliest record, of equal ones the first; none where there is no record.
 pub fn earliest<T: Ord>(records: &[T]) -> Option<usize>
     ensures place { result ≡ earliest_place (comes_before T.cmp) records.now }
+    ensures leads { MatchOption result (length records.now ≡ 0) (λ k. Leads (comes_before T.cmp) records.now k) }
     ensures law { MatchOption result (length records.now ≡ 0) (λ k. TellsApart T.cmp → Earliest (comes_before T.cmp) records.now k) }
 {
     let (_, place) = least(records)?;
