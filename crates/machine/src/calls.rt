@@ -6,7 +6,6 @@ ghost use Rattle.machine.specs.Fnv.{hashes};
 ghost use Rattle.machine.specs.Ends.{edge_here, place_of, ending, ending_at, finished, finished_at, break_answer, broken, broken_at, broken_by};
 ghost use Rattle.machine.specs.Machines.{state_of, capacity_of, fresh};
 
-use crate::checks::LAST_FILE;
 use crate::command::{MOST_OUTPUTS, Pending};
 use crate::disk::Disk;
 use crate::machine::Machine;
@@ -218,9 +217,7 @@ impl Machine {
         ensures kept { is_ok result ≡ false → self.new ≡ self.old }
         ensures capacity { capacity_of self.new ≡ capacity_of self.old }
     {
-        if file > LAST_FILE {
-            return Err(Refusal::BadCall);
-        }
+        let file = u8::try_from(file).map_err(|_| Refusal::BadCall)?;
         if self.disk.clock > LAST_CLOCK {
             return Err(Refusal::ClockSpent);
         }
@@ -228,9 +225,8 @@ impl Machine {
     }
 
     // The clock rises, and the file gets the mark or is removed; the answer is the risen clock.
-    fn put(&mut self, file: usize, mark: Option<u32>) -> u32
-        requires file { file < 256 }
-        requires clock { self.old.disk.clock ≤ 4000000000 }
+    fn put(&mut self, file: u8, mark: Option<u32>) -> u32
+        requires { self.old.disk.clock ≤ 4000000000 }
         ensures answer { result ≡ self.old.disk.clock + 1 }
         ensures after { state_of self.new ≡ written None (state_of self.old) file mark }
         ensures capacity { capacity_of self.new ≡ capacity_of self.old }

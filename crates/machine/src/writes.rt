@@ -47,17 +47,16 @@ impl Disk {
     }
 
     // The clock rises, and the file gets the mark with that stamp or is removed.
-    pub(crate) fn place(&mut self, file: usize, mark: Option<u32>)
-        requires file { file < 256 }
-        requires clock { self.old.clock < 4100000000 }
+    pub(crate) fn place(&mut self, file: u8, mark: Option<u32>)
+        requires { self.old.clock < 4100000000 }
         ensures { volume self.new ≡ record { files = slice_set (volume self.old).files file (placed (self.old.clock + 1) mark); clock = self.old.clock + 1 } }
     {
         self.rise();
         let stamp = self.clock;
-        self.files[file] = mark.map(|mark| Stamped { stamp, mark });
+        self.files[usize::from(file)] = mark.map(|mark| Stamped { stamp, mark });
     }
 
-    // The clock rises by 1.
+    // The clock rises by 1. How far it may rise only the machine knows, which counts the outputs still to come: so each step asks for it.
     pub(crate) fn rise(&mut self)
         requires { self.old.clock < 4100000000 }
         ensures { volume self.new ≡ record { files = (volume self.old).files; clock = self.old.clock + 1 } }
@@ -66,9 +65,8 @@ impl Disk {
     }
 
     // A mark comes into a file. One that has it is left alone, unless all is rewritten.
-    fn settle(&mut self, file: usize, mark: u32, rewrites: bool)
-        requires file { file < 256 }
-        requires clock { self.old.clock < 4100000000 }
+    fn settle(&mut self, file: u8, mark: u32, rewrites: bool)
+        requires { self.old.clock < 4100000000 }
         ensures after { volume self.new ≡ settled rewrites (volume self.old) file mark }
         ensures clock { self.new.clock ≤ self.old.clock + 1 }
     {
@@ -79,11 +77,10 @@ impl Disk {
     }
 
     // Whether the file is there and has this mark.
-    fn has(&self, file: usize, mark: u32) -> bool
-        requires { file < 256 }
+    fn has(&self, file: u8, mark: u32) -> bool
         ensures { result ≡ has (slice_index_or (volume self.now).files file None) mark }
     {
-        self.files[file].is_some_and(|held| held.mark == mark)
+        self.files[usize::from(file)].is_some_and(|held| held.mark == mark)
     }
 
     // The marks of a hash come into the outputs, in their order.
@@ -95,7 +92,7 @@ impl Disk {
     {
         for (place, file) in outputs.iter().enumerate() {
             let mark = fnv::step(hash, place as u8);
-            self.settle(usize::from(*file), mark, rewrites);
+            self.settle(*file, mark, rewrites);
         }
     }
 

@@ -11,7 +11,7 @@ invariant_of-self c =
       small = self.small;
       room = self.room;
       few = self.few;
-      clock = omega (arith, t, self.small, self.few, c.requires.clock);
+      clock = omega (arith, t, self.small, self.few, c.requires);
       each = self.each;
-      lawful = write_lawful self.capacity (volume self.disk) (volume c.place.new.self) (vec_items self.pending) c.args.file c.args.mark c.place.ensures self.lawful self.small c.requires.clock;
+      lawful = write_lawful self.capacity (volume self.disk) (volume c.place.new.self) (vec_items self.pending) c.args.file c.args.mark c.place.ensures self.lawful self.small c.requires;
     }
