@@ -1,4 +1,4 @@
-use Rattle.std.proofs.Common.{◌≡◌, map, vec_items, ap, ◌∙◌}
+use Rattle.std.proofs.Common.{◌≡◌, map, ap, ◌∙◌}
 use Rattle.graph.specs.Data.{file_of}
 use Rattle.graph.specs.Graphs.{graph_of, file_named}
 use Rattle.graph.proofs.Places.{named_place}
