@@ -66,7 +66,7 @@ impl<'a> Texts<'a> {
         bind_in(&mut self.file, FILE_NAMES, Variable { name, value })
     }
 
-    // Sets a variable of the open block.
+    // Sets a variable of the open block. One function for the file and the block would borrow a list of `self` beside `self`.
     pub fn set_block(&mut self, b: Binding<'a>) -> Result<(), Stop>
         ensures says { Gives (λ _. texts_of self.new) result (set_block (texts_of self.old) (entry_of b.entry)) }
     {

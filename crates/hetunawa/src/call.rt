@@ -32,7 +32,7 @@ pub struct Start {
     pub outputs: Vec<usize>,
 }
 
-// Why a line becomes no call.
+// Why a line becomes no call. What allocates fails in two ways, and `?` takes each by a `From` of its own.
 #[derive(Clone, Copy)]
 pub enum Unread {
     NotUnderstood,
@@ -151,7 +151,7 @@ struct Lists {
     outputs: Vec<usize>,
 }
 
-// The files to read up to the word `outputs`, and those to make behind it.
+// The files to read up to the word `outputs`, and those to make behind it. The labels name the loops in their proofs.
 fn lists_of(heap: Global, mut words: Words<'_>) -> Result<Lists, Unread>
     ensures { Reads listed (lists_more false [] [] (words_of words.entry.rest.now)) result }
 {

@@ -76,7 +76,8 @@ fn is_comment(line: &[u8]) -> bool
     line.starts_with(b"# ")
 }
 
-// What a line answers. For want of memory it does nothing.
+// What a line answers. For want of memory it does nothing. A line that is not understood has its answer, and want of memory has none, so
+// that no `?` parts the two.
 fn answer_to<B: Host>(heap: Global, host: &mut B, line: &[u8]) -> Result<Answer, AllocError>
     ensures { MatchResult result (λ a. Answers B.Host.CAPACITY B.Host.makes (call_of line.now) (B.Host.state host.old) a (B.Host.state host.new)) (λ _. B.Host.state host.new ≡ B.Host.state host.old) }
 {

@@ -15,10 +15,6 @@ pub place_map : {X Y : Type 0} (f : Y → List ℕ) (g : X → Y) (i : ℕ) (xs 
 place_map f g i [] n = refl
 place_map f g i (x ∷ xs) n = ap (cond (bytes_eq (f (g x)) n) (Some i)) (place_map f g (i + 1) xs n)
 
--- a search in a slice of what is seen of each element
-pub place_seen : {X Y : Type 0} (f : Y → List ℕ) (g : X → Y) (xs ys : List X) (n : List ℕ) → ys ≡ xs → place_from_on (λ x. f (g x)) 0 ys n ≡ place_from_on f 0 (map g xs) n
-place_seen f g xs ys n e = ap (λ zs. place_from_on (λ x. f (g x)) 0 zs n) e ∙ sym (place_map f g 0 xs n)
-
 pub some_maybe : {X Y : Type 0} (g : X → Y) (o : Option X) → is_some o ≡ is_some (maybe g o)
 some_maybe g None = refl
 some_maybe g (Some x) = refl

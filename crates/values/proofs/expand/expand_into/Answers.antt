@@ -18,6 +18,3 @@ pub returns-in_err-append : goal.returns-in_err-append
 returns-in_err-append c =
     let p = err_from_is_err_and c.from_residual.result c.from_residual.ensures.1 in
     rw (p.1, p.2) (broken _ _ _ _ _ c.loop-rest.invariant.0 c.part_at.ensures.cut _ _ c.in_err-append.ensures)
-
-pub returns : goal.returns
-returns c = finished (look (scope_of c.args.c)) _ _ c.loop-rest.rest.now _ _ c.loop-rest.invariant.0 (grind (arith, nat_tests)) c.loop-rest.out.ok.0 c.loop-rest.invariant.1
