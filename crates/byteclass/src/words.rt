@@ -26,7 +26,8 @@ fn word_of(name: &str) -> Word
     }
 }
 
-// The statement that a name at a line's start begins: what is no text is no word.
+// The statement that a name at a line's start begins: what is no text is no word. No `From` stands here, since a name is such a word at a
+// line's start alone.
 #[tactic(auto, using(crate::proofs::Same::plain_word), unfolding(crate::specs::Words::word_of))]
 pub fn word_at(name: &[u8]) -> Word
     ensures { result ≡ word_of name.now }

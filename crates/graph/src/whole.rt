@@ -9,7 +9,7 @@ pub struct Graph {
     pub files: Vec<File>,
     pub edges: Vec<Edge>,
     pub pools: Vec<Pool>,
-    // falls from each edge to those that it needs
+    // falls from each edge to those that it needs; beside the edges, which are there before there is a rank for any
     pub ranks: Vec<usize>,
     ghost lawful: { ∥ Lawful (data_of files.items edges.items pools.items ranks.items) ∥₁ },
 }

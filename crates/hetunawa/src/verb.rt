@@ -13,6 +13,7 @@ pub enum Verb {
     BreakOff,
 }
 
+// The verb that a word is. There is nothing to tell of a word that is none, as a `TryFrom` would.
 pub fn verb_in(word: &[u8]) -> Option<Verb>
     ensures { result ≡ verb_of word.now }
 {

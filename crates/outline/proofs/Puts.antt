@@ -1,5 +1,5 @@
 -- One put after another.
-use Rattle.std.proofs.Common.{◌≡◌, ℕ, ◌+◌, ◌<◌, ◌≤◌, List, [], ◌∷◌, ◌++◌, map, length, get_or, drop, Ok, Err, vec_items, Result, Vec, sym, refl, subst, ap, ◌∙◌, append_assoc, append-nil, arith, Bor}
+use Rattle.std.proofs.Common.{◌≡◌, ℕ, ◌+◌, ◌<◌, ◌≤◌, List, [], ◌∷◌, ◌++◌, map, length, get_or, drop, Ok, Err, vec_items, Result, Vec, sym, refl, subst, ap, ◌∙◌, append_assoc, append-nil, Bor}
 use Rattle.std.proofs.lemmas.List.{drop_more, drop_all}
 use Rattle.std.specs.declared.alloc.AllocError.{AllocError}
 use Rattle.std.specs.declared.alloc.Global.{Global}
@@ -7,7 +7,7 @@ use Rattle.parts.specs.declared.kinds.Binding.{Binding}
 use Rattle.parts.specs.Parts.{entry_of}
 use Rattle.text.specs.declared.kinds.Statement.{Statement}
 use Rattle.text.specs.Text.{stated_of}
-use Rattle.outline.specs.Outline.{Puts, shown_byte, shown, words, marked, names, line_of, lines_shown}
+use Rattle.outline.specs.Outline.{Puts, marked, names, line_of, lines_shown}
 
 pub then_puts : (r : Result (Unit {0}) AllocError) (x y z : Vec ℕ Global) (a b : List ℕ) → vec_items y ≡ vec_items x ++ a → Puts r y z b → Puts r x z (a ++ b)
 then_puts (Ok u) x y z a b h k = k ∙ (ap (λ w. w ++ b) h ∙ append_assoc (vec_items x) a b)
@@ -20,38 +20,15 @@ turn_puts items more w f1 f2 z h k e = ap (λ x. x ++ f2) h ∙ (append_assoc it
 pub all_put : (items f z : List ℕ) → f ≡ [] → items ++ f ≡ z → items ≡ z
 all_put items f z h e = sym (append-nil items) ∙ (ap (λ x. items ++ x) (sym h) ∙ e)
 
-pub shown_more : (xs : List ℕ) (i : ℕ) → i < length xs → shown (drop i xs) ≡ (shown_byte (get_or xs i 0) ∷ []) ++ shown (drop (i + 1) xs)
-shown_more xs i h = rw (drop_more xs i 0 h)
-
-pub shown_none : (xs : List ℕ) (i : ℕ) → length xs ≤ i → shown (drop i xs) ≡ []
-shown_none xs i h = rw (drop_all i xs h)
-
 module _ {X : Type 0} (xs : List X) (i : ℕ) (x : X) where
   pub drop_item : i < length xs → x ≡ get_or xs i x → drop i xs ≡ x ∷ drop (i + 1) xs
   drop_item h e = drop_more xs i x h ∙ ap (λ y. y ∷ drop (i + 1) xs) (sym e)
-
-pub words_more : (ps : List (Bor (List ℕ))) (i : ℕ) (d : Bor (List ℕ)) → i < length ps → words (map (λ x. x.now) (drop i ps)) ≡ ((32 ∷ []) ++ shown (get_or ps i d).now) ++ words (map (λ x. x.now) (drop (i + 1) ps))
-words_more ps i d h = ap (λ x. words (map (λ x. x.now) x)) (drop_more ps i d h)
-
-pub words_none : (ps : List (Bor (List ℕ))) (i : ℕ) → length ps ≤ i → words (map (λ x. x.now) (drop i ps)) ≡ []
-words_none ps i h = rw (drop_all i ps h)
-
-pub two_puts : (x y z a b : List ℕ) → y ≡ x ++ a → z ≡ y ++ b → z ≡ x ++ (a ++ b)
-two_puts x y z a b h k = k ∙ (ap (λ w. w ++ b) h ∙ append_assoc x a b)
 
 pub lines_more : (xs : List Statement) (i : ℕ) (x : Statement) → i < length xs → x ≡ get_or xs i x → lines_shown (map stated_of (drop i xs)) ≡ line_of (stated_of x) ++ lines_shown (map stated_of (drop (i + 1) xs))
 lines_more xs i x h e = ap (λ y. lines_shown (map stated_of y)) (drop_item xs i x h e)
 
 pub lines_none : (xs : List Statement) (i : ℕ) → length xs ≤ i → lines_shown (map stated_of (drop i xs)) ≡ []
 lines_none xs i h = rw (drop_all i xs h)
-
-pub marked_none : (x : Vec ℕ Global) (m : List ℕ) (ps : List (Bor (List ℕ))) → length ps ≡ 0 → vec_items x ≡ vec_items x ++ marked m (map (λ x. x.now) ps)
-marked_none x m [] e = sym (append-nil (vec_items x))
-marked_none x m (p ∷ ps) e = absurd (omega arith)
-
-pub marked_some : (r : Result (Unit {0}) AllocError) (x z : Vec ℕ Global) (m : List ℕ) (ps : List (Bor (List ℕ))) → 0 < length ps → Puts r x z (m ++ words (map (λ x. x.now) ps)) → Puts r x z (marked m (map (λ x. x.now) ps))
-marked_some r x z m [] e h = absurd (omega arith)
-marked_some r x z m (p ∷ ps) e h = h
 
 names_of : (bs : List Binding) → map (λ x. x.now) (map (λ b. b.name) bs) ≡ names (map entry_of bs)
 names_of [] = refl

@@ -1,4 +1,5 @@
 // A manifest's outline, for people: a line for each statement, with its place, its kind and its names, or the refusal.
+// It is bytes and no Display: a manifest's bytes need not be text.
 #![tactic(auto)]
 
 ghost use Rattle.std.specs.Prelude.{◌≡◌, map, codes, decimal, IfOk};

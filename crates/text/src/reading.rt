@@ -29,10 +29,10 @@ pub fn check(text: &[u8]) -> Result<(), Fault>
     if text.len() > LIMIT {
         return Err(Fault::TooLong);
     }
-    match first_banned(text) {
-        Some(byte) => Err(Fault::Banned(Place { byte })),
-        None => Ok(()),
+    if let Some(byte) = first_banned(text) {
+        return Err(Fault::Banned(Place { byte }));
     }
+    Ok(())
 }
 
 // As much of a text as a manifest may have. With `..LIMIT`, and with `get`, the proof counts up to the limit and does not end.

@@ -1,24 +1,13 @@
 use Rattle.std.proofs.Common.{[], map, sym, ap, ◌∙◌, append-nil}
 use Rattle.std.proofs.lemmas.List.{map_push}
-use Rattle.std.proofs.lemmas.Result.{err_from_is_err_and}
-use Rattle.parts.specs.declared.blocks.Line.TheVariants.{Last, Skip, Sets}
+use Rattle.parts.specs.declared.blocks.Line.TheVariants.{Skip, Sets}
 use Rattle.parts.specs.Parts.{entry_of, block_turn, turn_in}
-use Rattle.parts.proofs.Many.{begun, shorter, go_on, end_here, fail_here, known}
+use Rattle.parts.proofs.Many.{begun, shorter, go_on, known}
 use Rattle.parts.proofs.Moves.{block_turn_moves}
 use Rattle.parts.proofs.blocks.block.Goals as goal
 
 pub loop-all-init : goal.loop-all-init
 loop-all-init c = simp c.new-all.ensures.items (begun (block_turn c.args.kind) _ _ [])
-
-pub returns-in_err-block_line : goal.returns-in_err-block_line
-returns-in_err-block_line c =
-    let p = err_from_is_err_and c.from_residual.result c.from_residual.ensures.1 in
-    rw (p.1, p.2) (fail_here (block_turn c.args.kind) (block_turn_moves c.args.kind) c.loop-all.c.at c.loop-all.c.rest.now _ _ _ c.loop-all.invariant c.in_err-block_line.ensures)
-
-pub returns-in-Last : goal.returns-in-Last
-returns-in-Last c =
-    end_here (block_turn c.args.kind) (block_turn_moves c.args.kind) c.loop-all.c.at c.loop-all.c.rest.now _ _ _ _ c.loop-all.invariant
-    (known turn_in _ Last _ _ _ c.in-Last.is c.in_ok-block_line.ensures)
 
 pub loop-all-smaller-in-Skip : goal.loop-all-smaller-in-Skip
 loop-all-smaller-in-Skip c =

@@ -2,7 +2,7 @@ use Rattle.std.proofs.Common.{[], map, ap, ◌∙◌}
 use Rattle.std.proofs.lemmas.List.{map_push}
 use Rattle.std.proofs.lemmas.Result.{err_from_is_err_and}
 use Rattle.parts.specs.Many.{each}
-use Rattle.parts.proofs.Many.{begun, each_moves, shorter, go_on, end_here, some_more, none_stop}
+use Rattle.parts.proofs.Many.{begun, each_moves, shorter, go_on, some_more}
 use Rattle.text.specs.Text.{next, stated_of}
 use Rattle.text.proofs.Moves.{next_statement_moves}
 use Rattle.text.proofs.Refused.{refused_here}
@@ -25,8 +25,3 @@ loop-all-preserved c =
     go_on (each next) (each_moves next next_statement_moves) c.loop-all.c.at c.loop-all.c.rest.now _ _ _ _ _ _ c.loop-all.invariant
     (some_more next next_statement_moves stated_of c.loop-all.c.at c.loop-all.c.rest.now _ _ _ c.in-Some.x c.in-Some.is c.in_ok-x.ensures)
     (ap (map stated_of) c.in_ok-push.ensures.items ∙ map_push stated_of c.loop-all.all.items c.in-Some.x)
-
-pub returns : goal.returns
-returns c =
-    end_here (each next) (each_moves next next_statement_moves) c.loop-all.c.at c.loop-all.c.rest.now _ _ _ _ c.loop-all.invariant
-    (none_stop next next_statement_moves stated_of c.loop-all.c.at c.loop-all.c.rest.now _ _ _ c.in_default.is c.in_ok-x.ensures)
