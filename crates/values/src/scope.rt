@@ -25,7 +25,7 @@ impl<'b> Lists<'b> {
         }
     }
 
-    // The variables of a block, and those of the file.
+    // The variables of a block and those of the file.
     pub fn of_block(block: &'b [Variable<'b>], file: &'b [Variable<'b>]) -> Lists<'b>
         ensures special { result.special.now ≡ [] }
         ensures block { result.block.now ≡ block.now }
