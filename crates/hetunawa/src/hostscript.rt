@@ -17,7 +17,7 @@ use std::{fmt, io};
 // How many file numbers a host has.
 const FILES: usize = 256;
 
-// Why a script breaks off.
+// Why a script breaks off. By hand, and not by `thiserror`: want of memory is told in words of its own and holds no error.
 #[derive(Drop)]
 pub enum Fault {
     Memory,

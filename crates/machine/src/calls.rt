@@ -26,7 +26,8 @@ const MOST_READS: usize = 64;
 
 impl Machine {
     // No files, clock 0, nothing pending; at most 64 commands may be.
-    // Each caller gives its capacity as the program runs, so no type can carry it, and each call says that it stays the same.
+    // Any number may be asked for, also one that is not known before the program runs, which a const parameter could not take: so each
+    // call says that the capacity stays the same.
     pub fn new(heap: Global, capacity: usize) -> Result<Machine, AllocError>
         ensures fresh { IfOk result (λ m. state_of m ≡ fresh) }
         ensures capacity { IfOk result (λ m. capacity_of m ≡ min capacity 64) }

@@ -43,7 +43,8 @@ impl Replay {
         earliest(self.turns().as_slice())
     }
 
-    // The turns of the pending commands. A poll may not fail for want of memory, so they need none.
+    // The turns of the pending commands. A poll may not fail for want of memory, so they need none. A machine keeps its commands to itself
+    // and tells their edges by place, so that there is no list to walk over.
     fn turns(&self) -> ArrayVec<Turn, CAPACITY>
         ensures { result.items ≡ turns (rep_of self.now) }
     {

@@ -16,7 +16,7 @@ pub trait Part {
         ensures shorter { IfSome result (λ p. length p.1.now < length text.now) };
 }
 
-// The parts of a text that are still to come.
+// The parts of a text that are still to come. The `split` of a slice has an empty part behind the last line end, where no line is.
 #[derive(Drop)]
 pub struct Parts<'a, P> {
     rest: &'a [u8],
