@@ -58,7 +58,7 @@ fn entry(i: usize) -> Class
 pub fn class_of(b: u8) -> Class
     ensures { result ≡ class b }
 {
-    entry(b as usize)
+    entry(usize::from(b))
 }
 
 impl Class {
