@@ -22,6 +22,7 @@ pub enum Class {
     Other,
 }
 
+// A table and no match on ranges: the rules of a manifest give each byte its class in one (docs/manifest-text.md).
 static CLASSES: [Class; 256] = [
     Banned, Other, Other, Other, Other, Other, Other, Other, Other, Banned, End, Other, Other,
     Banned, Other, Other, Other, Other, Other, Other, Other, Other, Other, Other, Other, Other,
@@ -58,7 +59,7 @@ fn entry(i: usize) -> Class
 pub fn class_of(b: u8) -> Class
     ensures { result ≡ class b }
 {
-    entry(b as usize)
+    entry(usize::from(b))
 }
 
 impl Class {

@@ -1,4 +1,5 @@
 // The words that have a meaning of their own: at a line's start, and in the block of a rule or a pool.
+// The tests are over `&str`: a match of bytes on these words, which was tried, leaves the proof a case for each prefix.
 ghost use Rattle.std.specs.Prelude.{◌≡◌};
 ghost use Rattle.byteclass.specs.Words.{word_tests, rule_tests, word_of, rule_takes, pool_takes};
 

@@ -3,13 +3,13 @@
 ghost use Rattle.std.specs.Prelude.{◌+◌, ◌^◌, ◌<◌, length};
 
 // A place in a manifest: how many bytes stand before it.
-#[derive(Clone, Copy, Debug, PartialEq)]
+#[derive(Clone, Copy, Debug, PartialEq, Eq)]
 pub struct Place {
     pub byte: usize,
 }
 
 // What is left of a manifest, and the place of its first byte.
-#[derive(Drop)]
+#[derive(Clone, Copy)]
 pub struct Cursor<'a> {
     pub rest: &'a [u8],
     pub at: usize,
@@ -17,7 +17,7 @@ pub struct Cursor<'a> {
 }
 
 // Why a text is no manifest.
-#[derive(Clone, Copy, Debug, PartialEq)]
+#[derive(Clone, Copy, Debug, PartialEq, Eq)]
 pub enum Fault {
     // more bytes than a manifest may have
     TooLong,

@@ -48,7 +48,7 @@ pub(crate) fn is_escaped(s: &[u8]) -> bool
 }
 
 impl<'a> Cursor<'a> {
-    // Passes n bytes: the only function that writes the fields.
+    // Passes n bytes: the only method that writes the fields.
     pub(crate) fn advance(&mut self, n: usize)
         requires { n ≤ length self.old.rest.now }
         ensures at { self.new.at ≡ self.old.at + n }

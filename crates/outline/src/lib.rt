@@ -126,16 +126,6 @@ fn put_line(out: &mut Vec<u8>, x: &Statement) -> Result<(), AllocError>
     put(out, b"\n")
 }
 
-fn put_fault(out: &mut Vec<u8>, f: Fault) -> Result<(), AllocError>
-    ensures { Puts result out.old out.new (fault_line f) }
-{
-    put(out, b"refused ")?;
-    put_number(out, f.number() as usize)?;
-    put(out, b" at ")?;
-    put_number(out, f.place().byte)?;
-    put(out, b"\n")
-}
-
 fn put_lines(out: &mut Vec<u8>, all: &[Statement]) -> Result<(), AllocError>
     ensures { Puts result out.old out.new (lines_shown (map stated_of all.now)) }
 {
@@ -145,7 +135,7 @@ fn put_lines(out: &mut Vec<u8>, all: &[Statement]) -> Result<(), AllocError>
     Ok(())
 }
 
-// The line of a statement. A function that serves this one and `fault_line` would take a closure that changes the vector, and be longer than both.
+// The line of a statement.
 pub fn line(heap: Global, x: &Statement) -> Result<Vec<u8>, AllocError>
     ensures { Shows result (line_of (stated_of x.now)) }
 {
@@ -158,9 +148,7 @@ pub fn line(heap: Global, x: &Statement) -> Result<Vec<u8>, AllocError>
 pub fn fault_line(heap: Global, f: Fault) -> Result<Vec<u8>, AllocError>
     ensures { Shows result (fault_line f) }
 {
-    let mut out = Vec::new(heap);
-    put_fault(&mut out, f)?;
-    Ok(out)
+    Ok(format!(in heap; "refused {} at {}\n", f.number(), f.place().byte)?.into_bytes())
 }
 
 // The outline of a text: all its lines, or the line of its fault.

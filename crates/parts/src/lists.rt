@@ -1,6 +1,6 @@
 // Lists of paths, as they stand in a build statement.
 ghost use Rattle.std.specs.Prelude.{◌≡◌, []};
-ghost use Rattle.parts.specs.Parts.{Tells, paths, paths_of, some_paths, open_after, outputs, outs_of, inputs, ins_of};
+ghost use Rattle.parts.specs.Parts.{Tells, paths, paths_of, some_paths, list_if, open_after, outputs, outs_of, inputs, ins_of};
 
 use crate::kinds::{Inputs, Outputs};
 use crate::refusal::Refusal;
@@ -37,6 +37,16 @@ fn some_paths<'a>(heap: Global, c: &mut Cursor<'a>) -> Result<Vec<&'a [u8]>, Ref
     Ok(all)
 }
 
+// Reads a list if its mark stood before it.
+fn list_if<'a>(heap: Global, marked: bool, c: &mut Cursor<'a>) -> Result<Vec<&'a [u8]>, Refusal>
+    ensures { Tells paths_of result c.new (list_if marked c.old.at c.old.rest.now) }
+{
+    if marked {
+        return any_paths(heap, c);
+    }
+    Ok(Vec::new(heap))
+}
+
 // Whether a longer mark could still follow the lists that were read.
 fn open_after(marked: bool) -> Opens
     ensures { result ≡ open_after marked }
@@ -50,11 +60,7 @@ pub fn outputs<'a>(heap: Global, c: &mut Cursor<'a>) -> Result<Outputs<'a>, Refu
 {
     let explicit = some_paths(heap, c)?;
     let marked = c.bar();
-    let implicit = if marked {
-        any_paths(heap, c)?
-    } else {
-        Vec::new(heap)
-    };
+    let implicit = list_if(heap, marked, c)?;
     c.expect(b':', open_after(marked))?;
     Ok(Outputs { explicit, implicit })
 }
@@ -64,22 +70,12 @@ pub fn inputs<'a>(heap: Global, c: &mut Cursor<'a>) -> Result<Inputs<'a>, Refusa
     ensures { Tells ins_of result c.new (inputs c.old.at c.old.rest.now) }
 {
     let explicit = any_paths(heap, c)?;
-    let implicit = if c.bar() {
-        any_paths(heap, c)?
-    } else {
-        Vec::new(heap)
-    };
-    let order_only = if c.pair(b'|') {
-        any_paths(heap, c)?
-    } else {
-        Vec::new(heap)
-    };
+    let marked = c.bar();
+    let implicit = list_if(heap, marked, c)?;
+    let ordered = c.pair(b'|');
+    let order_only = list_if(heap, ordered, c)?;
     let checked = c.pair(b'@');
-    let validations = if checked {
-        any_paths(heap, c)?
-    } else {
-        Vec::new(heap)
-    };
+    let validations = list_if(heap, checked, c)?;
     c.expect(b'\n', open_after(checked))?;
     Ok(Inputs {
         explicit,

@@ -60,10 +60,7 @@ pub fn next<'a>(heap: Global, c: &mut Cursor<'a>) -> Result<Option<Statement<'a>
     ensures says { Tells (maybe stated_of) result c.new (next c.old.at c.old.rest.now) }
     ensures kept { Kept result c.old c.new }
 {
-    let mut ahead = Cursor {
-        rest: c.rest,
-        at: c.at,
-    };
+    let mut ahead = *c;
     let answer = read_next(heap, &mut ahead)?;
     *c = ahead;
     Ok(answer)
