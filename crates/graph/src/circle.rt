@@ -10,7 +10,7 @@ use crate::kinds::{Edge, File};
 use std::alloc::{AllocError, Global};
 
 // Why the edges of a graph have no order.
-#[derive(Clone, Copy, Debug, PartialEq)]
+#[derive(Clone, Copy, Debug, PartialEq, Eq)]
 pub enum Unranked {
     // the lowest edge that reaches itself
     Circle(usize),

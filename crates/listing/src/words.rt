@@ -73,7 +73,7 @@ fn put_hex_byte(out: &mut Vec<u8>, n: u32) -> Result<(), AllocError>
 fn is_plain(b: u8) -> bool
     ensures { result ≡ plain_byte b }
 {
-    32 <= b && (b <= 126 && b != b'\\')
+    matches!(b, b' '..=b'~') && b != b'\\'
 }
 
 // The place of the first byte that does not stand for itself.
