@@ -23,14 +23,10 @@ fn complete(heap: Global, mut draft: Draft) -> Result<Pieces, Refusal>
     ensures { Tells pieces_of result (finish (state_of draft.entry)) }
 {
     // a circle gets the place of its edge, so that no `From` can stand for this
-    let ranks = match order(heap, &draft.known.files, &draft.edges) {
-        Ok(ranks) => ranks,
-        Err(Unranked::Circle(c)) => {
-            let place = draft.edges[c].place;
-            return Err(Refusal::Faulty(Fault::Meaning(Wrong::Circle, place)));
-        }
-        Err(Unranked::Memory) => return Err(Refusal::Memory),
-    };
+    let ranks = order(heap, &draft.known.files, &draft.edges).map_err(|u| match u {
+        Unranked::Circle(c) => Refusal::Faulty(Fault::Meaning(Wrong::Circle, draft.edges[c].place)),
+        Unranked::Memory => Refusal::Memory,
+    })?;
     each_edge::<Valuing>(&mut draft)?;
     each_edge::<Asking>(&mut draft)?;
     let Known { texts, files } = draft.known;
