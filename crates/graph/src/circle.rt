@@ -1,5 +1,5 @@
 // The order of the edges: a rank for each one above those of the edges that it needs, or the lowest edge on a circle.
-ghost use Rattle.std.specs.Prelude.{◌≡◌, ℕ, ◌<◌, ◌||◌, ◌++◌, map, length, IfOk, vec_items, vec_len, OnOk};
+ghost use Rattle.std.specs.Prelude.{◌≡◌, ℕ, ◌<◌, ◌||◌, map, length, IfOk, vec_items, vec_len, OnOk};
 ghost use Rattle.std.specs.List.{position, enumerate_from};
 ghost use Rattle.graph.specs.declared.circle.Unranked.TheVariants.{Memory};
 ghost use Rattle.graph.specs.Data.{file_of, edge_of, maker_at};
@@ -10,7 +10,7 @@ use crate::kinds::{Edge, File};
 use std::alloc::{AllocError, Global};
 
 // Why the edges of a graph have no order.
-#[derive(Clone, Copy, Debug, PartialEq)]
+#[derive(Clone, Copy, Debug, PartialEq, Eq)]
 pub enum Unranked {
     // the lowest edge that reaches itself
     Circle(usize),
@@ -54,19 +54,21 @@ fn mark(files: &[File], inputs: &[usize], row: &mut [bool])
     }
 }
 
-// The edges that make one of the files, of n.
-fn makers_row(
-    heap: Global,
-    files: &[File],
-    reads: &[usize],
-    order_only: &[usize],
-    n: usize,
-) -> Result<Vec<bool>, AllocError>
-    ensures { IfOk result (λ v. Row n (λ d. makes_one (map file_of files.now) d (reads.now ++ order_only.now)) v.items) }
+// Sets the bit of each edge that makes an input of the edge.
+#[tactic(auto, using(crate::proofs::Marks::marks_append))]
+fn mark_inputs(files: &[File], edge: &Edge, row: &mut [bool])
+    ensures { (d : ℕ) → d < length row.old → bit row.new d ≡ (bit row.old d || makes_one (map file_of files.now) d (inputs_of (edge_of edge.now))) }
+{
+    mark(files, &edge.reads, row);
+    mark(files, &edge.order_only, row);
+}
+
+// The edges, of n, that make an input of the edge.
+fn makers_row(heap: Global, files: &[File], edge: &Edge, n: usize) -> Result<Vec<bool>, AllocError>
+    ensures { IfOk result (λ v. Row n (λ d. makes_one (map file_of files.now) d (inputs_of (edge_of edge.now))) v.items) }
 {
     let mut row = vec![in heap; false; n]?;
-    mark(files, reads, &mut row);
-    mark(files, order_only, &mut row);
+    mark_inputs(files, edge, &mut row);
     Ok(row)
 }
 
@@ -76,7 +78,7 @@ fn first_rows(heap: Global, files: &[File], edges: &[Edge]) -> Result<Vec<Vec<bo
 {
     let mut rows = Vec::new(heap);
     for edge in edges {
-        rows.push(makers_row(heap, files, &edge.reads, &edge.order_only, edges.len())?)?;
+        rows.push(makers_row(heap, files, edge, edges.len())?)?;
     }
     Ok(rows)
 }
@@ -144,7 +146,8 @@ fn ranks(heap: Global, rows: &[Vec<bool>]) -> Result<Vec<usize>, AllocError>
         .collect(heap)
 }
 
-// The answer that the table of what reaches what gives. The files and edges are there for the contract.
+// The answer that the table of what reaches what gives. The files and edges are there for the contract. It stands beside `order`
+// because the proof does not close there by itself: what stays open is that the edge found is the lowest on a circle.
 fn answer(
     heap: Global,
     files: &[File],

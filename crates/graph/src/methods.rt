@@ -11,7 +11,7 @@ use crate::kinds::{Edge, File, Pool};
 use crate::whole::Graph;
 use std::alloc::Global;
 
-// The place of the first file with a path.
+// The place of the first file with a path. `names::place_of` does the same above this crate, for what has a name there.
 fn place_of(files: &[File], path: &[u8]) -> Option<usize>
     ensures { result ≡ position (λ file. bytes_eq file.path.items path.now) files.now }
 {

@@ -1,3 +1,4 @@
+pub mod Hex
 pub mod Puts
 pub mod Texts
 pub mod Zeros

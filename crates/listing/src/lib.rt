@@ -17,6 +17,7 @@ use std::alloc::{AllocError, Global};
 const ROOM: usize = 65_536;
 
 // Every file, pool and edge of a graph, and the used bytes and the hash of the store that its texts came from.
+// Of the store a caller has the bytes and how many of them are used.
 pub fn listing(
     heap: Global,
     files: &[File],

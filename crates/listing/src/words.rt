@@ -43,10 +43,10 @@ pub(crate) fn put_numbers(out: &mut Vec<u8>, all: &[usize]) -> Result<(), AllocE
 }
 
 // The last hexadecimal digit of a number.
-fn hex_digit(n: u32) -> u8
+fn hex_digit(n: u8) -> u8
     ensures { result ≡ hex_digit (n % 16) }
 {
-    let d = (n % 16) as u8;
+    let d = n % 16;
     if d < 10 { b'0' + d } else { b'a' - 10 + d }
 }
 
@@ -54,14 +54,14 @@ fn hex_digit(n: u32) -> u8
 pub(crate) fn put_hex(out: &mut Vec<u8>, n: u32) -> Result<(), AllocError>
     ensures { Puts result out.old out.new (hex8 n) }
 {
-    put_hex_byte(out, n / 0x100_0000)?;
-    put_hex_byte(out, n / 0x1_0000)?;
-    put_hex_byte(out, n / 0x100)?;
-    put_hex_byte(out, n)
+    for b in n.to_be_bytes() {
+        put_hex_byte(out, b)?;
+    }
+    Ok(())
 }
 
-// Puts the last two hexadecimal digits of a number.
-fn put_hex_byte(out: &mut Vec<u8>, n: u32) -> Result<(), AllocError>
+// Puts a byte in two hexadecimal digits.
+fn put_hex_byte(out: &mut Vec<u8>, n: u8) -> Result<(), AllocError>
     ensures { Puts result out.old out.new (hex2 n) }
 {
     out.push(hex_digit(n / 16))?;
@@ -73,7 +73,7 @@ fn put_hex_byte(out: &mut Vec<u8>, n: u32) -> Result<(), AllocError>
 fn is_plain(b: u8) -> bool
     ensures { result ≡ plain_byte b }
 {
-    32 <= b && (b <= 126 && b != b'\\')
+    matches!(b, b' '..=b'~') && b != b'\\'
 }
 
 // The place of the first byte that does not stand for itself.
@@ -91,7 +91,7 @@ fn put_escaped(out: &mut Vec<u8>, b: u8) -> Result<(), AllocError>
         return put(out, b"\\\\");
     }
     put(out, b"\\x")?;
-    put_hex_byte(out, u32::from(b))
+    put_hex_byte(out, b)
 }
 
 // Whether each byte stands for itself. All are looked at, many at a time, which `all` cannot do.

@@ -20,7 +20,8 @@ const INPUTS: usize = 64;
 
 const VALIDATIONS: usize = 16;
 
-// How the paths of a list are taken.
+// How the paths of a list are taken. `known` and `found` are two parameters: a struct of two `&mut` would owe clauses of its
+// own for what each leaves.
 trait Taking {
     ghost taken: { Self → Walk → List ℕ → Try Walk };
 

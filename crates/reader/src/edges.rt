@@ -27,7 +27,7 @@ pub(crate) fn stopped(s: Stop, place: Place) -> Refusal
 pub(crate) trait Step {
     ghost step: { State → ℕ → Try State };
 
-    // Takes the step for the edge e.
+    // Takes the step for the edge e. The number is no type of its own: steps change the draft whose edges it counts.
     fn take(d: &mut Draft, e: usize) -> Result<(), Stop>
         requires { e < length (state_of d.old).edges }
         ensures says { Gives (λ _. state_of d.new) result (step (state_of d.old) e) }

@@ -8,7 +8,7 @@ use cursor::Place;
 use std::alloc::AllocError;
 use store::Wrong;
 
-#[derive(Clone, Copy)]
+#[derive(Clone, Copy, Debug)]
 pub enum Fault {
     // the text is no manifest
     Text(cursor::Fault),
@@ -17,7 +17,7 @@ pub enum Fault {
 }
 
 // Its conversions stand below: one error type over each fault's type would need the same three.
-#[derive(Clone, Copy)]
+#[derive(Clone, Copy, Debug)]
 pub enum Refusal {
     Faulty(Fault),
     // there is no memory for the answer

@@ -19,26 +19,21 @@ use std::alloc::Global;
 use store::{Store, Wrong};
 
 // What is done once all statements are read: circles, values, questions.
-fn complete(heap: Global, draft: Draft) -> Result<Pieces, Refusal>
+fn complete(heap: Global, mut draft: Draft) -> Result<Pieces, Refusal>
     ensures { Tells pieces_of result (finish (state_of draft.entry)) }
 {
-    let mut d = draft;
     // a circle gets the place of its edge, so that no `From` can stand for this
-    let ranks = match order(heap, &d.known.files, &d.edges) {
-        Ok(ranks) => ranks,
-        Err(Unranked::Circle(c)) => {
-            let place = d.edges[c].place;
-            return Err(Refusal::Faulty(Fault::Meaning(Wrong::Circle, place)));
-        }
-        Err(Unranked::Memory) => return Err(Refusal::Memory),
-    };
-    each_edge::<Valuing>(&mut d)?;
-    each_edge::<Asking>(&mut d)?;
-    let Known { texts, files } = d.known;
+    let ranks = order(heap, &draft.known.files, &draft.edges).map_err(|u| match u {
+        Unranked::Circle(c) => Refusal::Faulty(Fault::Meaning(Wrong::Circle, draft.edges[c].place)),
+        Unranked::Memory => Refusal::Memory,
+    })?;
+    each_edge::<Valuing>(&mut draft)?;
+    each_edge::<Asking>(&mut draft)?;
+    let Known { texts, files } = draft.known;
     Ok(Pieces {
         files,
-        edges: d.edges,
-        pools: d.pools,
+        edges: draft.edges,
+        pools: draft.pools,
         ranks,
         store: texts.into_store(),
     })

@@ -18,7 +18,7 @@ impl Store {
     }
 }
 
-// The place of a variable among others.
+// The place of a variable among others. `names::place_of` does the same above this crate, for what has a name there.
 pub fn place_of(vars: &[Variable], name: &[u8]) -> Option<usize>
     ensures is { result ≡ place_from_on 0 vars.now name.now }
     ensures below { IfSome result (λ i. i < length vars.now) }

@@ -4,25 +4,26 @@ ghost use Rattle.store.specs.declared.wrong.Stop.TheVariants.{Because, Memory};
 
 use std::alloc::{AllocError, AllocFailed};
 
-#[derive(Clone, Copy, Debug, PartialEq)]
+// What is wrong, with the number by which each is known.
+#[derive(Clone, Copy, Debug, PartialEq, Eq)]
 pub enum Wrong {
     // a rule that is not declared above, or a pool that is declared nowhere
-    Unknown,
+    Unknown = 6,
     // a rule or a pool that is declared twice
-    Again,
+    Again = 7,
     // an output that is made twice
-    Made,
+    Made = 8,
     // a limit that is passed
-    Limit,
+    Limit = 9,
     // a rule without a command line, or a pool without a lawful depth
-    Lacks,
+    Lacks = 10,
     // edges whose inputs go round in a circle
-    Circle,
+    Circle = 12,
 }
 
 // Other crates have such an enum for refusals of their own. One generic over the refusal could not have these impls:
 // a `From<E>` for every E overlaps that of `AllocError`.
-#[derive(Clone, Copy)]
+#[derive(Clone, Copy, Debug)]
 pub enum Stop {
     Because(Wrong),
     // there is no memory for the answer
