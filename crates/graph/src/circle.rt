@@ -1,4 +1,5 @@
 // The order of the edges: a rank for each one above those of the edges that it needs, or the lowest edge on a circle.
+// Files and edges go apart: there is no graph yet that would hold both.
 ghost use Rattle.std.specs.Prelude.{◌≡◌, ℕ, ◌<◌, ◌||◌, map, length, IfOk, vec_items, vec_len, OnOk};
 ghost use Rattle.std.specs.List.{position, enumerate_from};
 ghost use Rattle.graph.specs.declared.circle.Unranked.TheVariants.{Memory};

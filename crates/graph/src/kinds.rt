@@ -20,7 +20,7 @@ pub struct Edge {
     // where its build statement begins
     pub place: Place,
     pub outputs: Vec<usize>,
-    // how many of the outputs are explicit; they come first
+    // how many of the outputs are explicit; they come first, and the number is printed
     pub explicit_outputs: usize,
     // explicit inputs, then implicit ones
     pub reads: Vec<usize>,

@@ -54,7 +54,7 @@ impl Taking for AtMost {
     }
 }
 
-// The outputs of the edge with the number.
+// The outputs of the edge with the number. One function for what both take first would owe a clause on the middle of a chain of steps.
 #[derive(Drop)]
 struct MadeBy(usize);
 
