@@ -5,23 +5,12 @@ ghost use Rattle.listing.specs.Listing.{hex_digit, hex2, hex8, plain_byte, escap
 
 use itoa::Buffer;
 use std::alloc::AllocError;
-use std::mem;
 
 // Puts bytes as they are. Its promise is one equation, where that of `extend_from_slice` speaks of clones.
 pub(crate) fn put(out: &mut Vec<u8>, part: &[u8]) -> Result<(), AllocError>
     ensures { Puts result out.old out.new part.now }
 {
     out.extend_from_slice(part)
-}
-
-// Puts many bytes as they are, into a vector that nothing else can reach, so that many are moved at a time.
-fn put_long(out: &mut Vec<u8>, part: &[u8]) -> Result<(), AllocError>
-    ensures { Puts result out.old out.new part.now }
-{
-    let mut all = mem::replace(out, Vec::new(*out.allocator()));
-    let done = all.extend_from_slice(part);
-    *out = all;
-    done
 }
 
 // Puts a number in decimal digits.
@@ -107,11 +96,11 @@ fn put_shown(out: &mut Vec<u8>, text: &[u8]) -> Result<(), AllocError>
 {
     let mut rest = text;
     while let Some(n) = first_escaped(rest) {
-        put_long(out, &rest[..n])?;
+        put(out, &rest[..n])?;
         put_escaped(out, rest[n])?;
         rest = &rest[n + 1..];
     }
-    put_long(out, rest)
+    put(out, rest)
 }
 
 // Puts a text after a space, and nothing for an empty one.
@@ -123,7 +112,7 @@ pub(crate) fn put_text(out: &mut Vec<u8>, text: &[u8]) -> Result<(), AllocError>
     }
     out.push(b' ')?;
     if is_all_plain(text) {
-        return put_long(out, text);
+        return put(out, text);
     }
     put_shown(out, text)
 }

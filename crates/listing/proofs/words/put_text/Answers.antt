@@ -6,9 +6,9 @@ use Rattle.listing.proofs.words.put_text.Goals as goal
 
 pub returns-then-is_all_plain : goal.returns-then-is_all_plain
 returns-then-is_all_plain c =
-    subst (Puts c.put_long.result c.args.out.now c.put_long.new.out) (sym (spaced_some c.args.text.now (sym c.if-is_empty.ensures)))
-    (then_puts c.put_long.result c.args.out.now c.push.new.self c.put_long.new.out (32 ∷ []) (shown c.args.text.now) c.in_ok-push.ensures.items
-    (subst (Puts c.put_long.result c.push.new.self c.put_long.new.out) (sym (shown_plain c.args.text.now (sym c.if-is_all_plain.ensures))) c.put_long.ensures))
+    subst (Puts c.put.result c.args.out.now c.put.new.out) (sym (spaced_some c.args.text.now (sym c.if-is_empty.ensures)))
+    (then_puts c.put.result c.args.out.now c.push.new.self c.put.new.out (32 ∷ []) (shown c.args.text.now) c.in_ok-push.ensures.items
+    (subst (Puts c.put.result c.push.new.self c.put.new.out) (sym (shown_plain c.args.text.now (sym c.if-is_all_plain.ensures))) c.put.ensures))
 
 pub returns : goal.returns
 returns c =
