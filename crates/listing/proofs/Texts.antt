@@ -97,10 +97,6 @@ pub command_front : (q : List ℕ) → take (length (command_text q)) q ≡ comm
 command_front [] = refl
 command_front (b ∷ q) = elim (cases_Bool (eqb b 0)) [ inl t ↦ rw t | inr f ↦ rw (f, command_front q) ]
 
-pub command_le : (q : List ℕ) → length (command_text q) ≤ length q
-command_le [] = omega arith
-command_le (b ∷ q) = elim (cases_Bool (eqb b 0)) [ inl t ↦ rw t (omega arith) | inr f ↦ rw f (let h = command_le q in omega arith) ]
-
 -- a text that is not empty
 pub spaced_some : (s : List ℕ) → eqb (length s) 0 ≡ false → spaced s ≡ (32 ∷ []) ++ shown s
 spaced_some [] h = absurd (eqb-false 0 0 h refl)

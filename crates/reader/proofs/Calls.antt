@@ -8,6 +8,7 @@ use Rattle.graph.specs.Data.{PoolData, pool_of, EdgeData, edge_of, no_edge, edge
 use Rattle.store.specs.declared.wrong.Stop.{Stop}
 use Rattle.store.specs.declared.wrong.Stop.TheVariants.{Because, Memory}
 use Rattle.store.specs.Try.{Try, got, wrong, and_try, Stops}
+use Rattle.values.proofs.Within.{stops_then}
 use Rattle.expansion.specs.Model.{TextsData, ask}
 use Rattle.draft.specs.State.{State}
 use Rattle.draft.specs.Statements.{pool_at}
@@ -32,10 +33,6 @@ given_is (x ∷ t) false e = refl
 pub given_on : {A B : Type 0} (a : A) (o : Try A) (f : A → Try B) → got a ≡ o → f a ≡ and_try o f
 given_on a o f e = ap (λ z. and_try z f) e
 
-pub stops_on : {A B : Type 0} (s : Stop) (o : Try A) (f : A → Try B) → Stops s o → Stops s (and_try o f)
-stops_on (Because w) o f h = ap (λ z. and_try z f) h
-stops_on Memory o f h = tt
-
 pub stops_past : {A B : Type 0} (s : Stop) (a : A) (o : Try A) (f : A → Try B) → got a ≡ o → Stops s (f a) → Stops s (and_try o f)
 stops_past s a o f e h = subst (Stops s) (given_on a o f e) h
 
@@ -49,17 +46,17 @@ module _ {A B C D E F : Type 0} (v1 : Try A) (v2 : Try B) (v3 : Try C) (v4 : Try
   chain = and_try v1 (λ c. and_try v2 (λ d. and_try v3 (λ p. and_try v4 (λ r. and_try (v5 p) (λ k. got (make c d r k))))))
 
   pub second : (s : Stop) (c : A) → got c ≡ v1 → Stops s v2 → Stops s chain
-  second s c e1 h = stops_past s c v1 _ e1 (stops_on s v2 _ h)
+  second s c e1 h = stops_past s c v1 _ e1 (stops_then s v2 _ h)
 
   pub third : (s : Stop) (c : A) (d : B) → got c ≡ v1 → got d ≡ v2 → Stops s v3 → Stops s chain
-  third s c d e1 e2 h = stops_past s c v1 _ e1 (stops_past s d v2 _ e2 (stops_on s v3 _ h))
+  third s c d e1 e2 h = stops_past s c v1 _ e1 (stops_past s d v2 _ e2 (stops_then s v3 _ h))
 
   pub fourth : (s : Stop) (c : A) (d : B) (p : C) → got c ≡ v1 → got d ≡ v2 → got p ≡ v3 → Stops s v4 → Stops s chain
-  fourth s c d p e1 e2 e3 h = stops_past s c v1 _ e1 (stops_past s d v2 _ e2 (stops_past s p v3 _ e3 (stops_on s v4 _ h)))
+  fourth s c d p e1 e2 e3 h = stops_past s c v1 _ e1 (stops_past s d v2 _ e2 (stops_past s p v3 _ e3 (stops_then s v4 _ h)))
 
   pub fifth : (s : Stop) (c : A) (d : B) (p : C) (r : D) → got c ≡ v1 → got d ≡ v2 → got p ≡ v3 → got r ≡ v4 → Stops s (v5 p) → Stops s chain
   fifth s c d p r e1 e2 e3 e4 h =
-      stops_past s c v1 _ e1 (stops_past s d v2 _ e2 (stops_past s p v3 _ e3 (stops_past s r v4 _ e4 (stops_on s (v5 p) _ h))))
+      stops_past s c v1 _ e1 (stops_past s d v2 _ e2 (stops_past s p v3 _ e3 (stops_past s r v4 _ e4 (stops_then s (v5 p) _ h))))
 
   pub all_five : (c : A) (d : B) (p : C) (r : D) (k : E) → got c ≡ v1 → got d ≡ v2 → got p ≡ v3 → got r ≡ v4 → got k ≡ v5 p → got (make c d r k) ≡ chain
   all_five c d p r k e1 e2 e3 e4 e5 =
