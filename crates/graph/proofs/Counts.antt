@@ -1,5 +1,5 @@
 -- The least number that passes, and how many pass.
-use Rattle.std.proofs.Common.{◌≡◌, ℕ, zero, suc, ◌+◌, ◌<◌, ◌≤◌, Bool, true, false, cond, List, [], ◌∷◌, length, get_or, Some, None, sym, refl, ap, ◌∙◌, ⊎_elim, add-zero, zero-add, arith}
+use Rattle.std.proofs.Common.{◌≡◌, ℕ, zero, suc, ◌+◌, ◌<◌, ◌≤◌, Bool, true, false, cond, List, [], ◌∷◌, length, get_or, Some, None, sym, refl, ap, ◌∙◌, ⊎_elim, add-zero, add-one, zero-add, arith}
 use Rattle.std.proofs.lemmas.Bool.{cases_lt, cases_Bool, cond-true, cond-false}
 use Rattle.std.proofs.lemmas.Iterator.Adapters.{position_from-zero}
 use Rattle.std.proofs.lemmas.List.Recursion.{is_count_by}
@@ -123,3 +123,9 @@ count_first p (suc n) = grind (arith, count_first p n)
 
 pub bits_count : (row : List Bool) → count_of (bit row) (length row) ≡ set_bits row
 bits_count row = is_count_by (λ row. count_of (bit row) (length row)) (λ b. b) refl (λ x xs. count_first (bit (x ∷ xs)) (length xs)) row
+
+pub count_yes : (p : ℕ → Bool) (i m : ℕ) → m ≡ count_of p i → p i ≡ true → m + 1 ≡ count_of p (i + 1)
+count_yes p i m e t = omega (arith, ap (count_of p) (add-one i), cond-true (p i) (suc (count_of p i)) (count_of p i) t)
+
+pub count_no : (p : ℕ → Bool) (i m : ℕ) → m ≡ count_of p i → p i ≡ false → m ≡ count_of p (i + 1)
+count_no p i m e f = omega (arith, ap (count_of p) (add-one i), cond-false (p i) (suc (count_of p i)) (count_of p i) f)

@@ -138,13 +138,24 @@ fn lowest(rows: &[Vec<bool>]) -> Option<usize>
         .position(|(i, row)| row.get(i) == Some(&true))
 }
 
+// How many bits are set. A loop, and no `filter` with `count`: of a row with few of them that takes over twice as long.
+fn count(row: &[bool]) -> usize
+    ensures { result ≡ set_bits row.now }
+{
+    let mut n = 0;
+    for b in row {
+        if *b {
+            n += 1;
+        }
+    }
+    n
+}
+
 // How many edges each edge reaches.
 fn ranks(heap: Global, rows: &[Vec<bool>]) -> Result<Vec<usize>, AllocError>
     ensures { IfOk result (λ v. v.items ≡ map (λ row. set_bits row.items) rows.now) }
 {
-    rows.iter()
-        .map(|row| row.iter().filter(|b| **b).count())
-        .collect(heap)
+    rows.iter().map(|row| count(row)).collect(heap)
 }
 
 // The answer that the table of what reaches what gives. The files and edges are there for the contract. It stands beside `order`

@@ -4,7 +4,7 @@ use Rattle.std.proofs.lemmas.Cmp.{ranked}
 use Rattle.std.specs.Ordering.{is_lt, nat_cmp, ordering_then}
 use Rattle.std.specs.declared.cmp.Ordering.{Ordering}
 use Rattle.std.specs.declared.cmp.Ordering.TheVariants.{Less, Equal, Greater}
-use Rattle.order.specs.Earliest.{Earliest, TellsApart, comes_before, earliest_place}
+use Rattle.order.specs.Earliest.{Earliest, earliest_place}
 
 -- such an order, as one test
 pub pair_before : (a b c d : ℕ) → is_lt (ordering_then (nat_cmp a b) (nat_cmp c d)) ≡ (ltb a b || (eqb a b && ltb c d))
@@ -34,6 +34,6 @@ pub earliest_place_by : {X : Type 0} (before after : X → X → Bool) (xs : Lis
 earliest_place_by before after xs h = ap (λ (b : _). earliest_place b xs) (λ i x y. h x y i)
 
 -- and what `earliest` promises by the one it promises by the other
-pub earliest_by : {X : Type 0} (cmp : X → X → Ordering) (after : X → X → Bool) (xs : List X) (o : Option ℕ) (P : Type 0) → TellsApart cmp → ((x y : X) → comes_before cmp x y ≡ after x y) → MatchOption o P (λ k. TellsApart cmp → Earliest (comes_before cmp) xs k) → MatchOption o P (λ k. Earliest after xs k)
-earliest_by cmp after xs None P apart h e = e
-earliest_by {X} cmp after xs (Some k) P apart h e = subst (λ (b : X → X → Bool). Earliest b xs k) (λ i x y. h x y i) (e apart)
+pub earliest_by : {X : Type 0} (before after : X → X → Bool) (xs : List X) (o : Option ℕ) (P : Type 0) → ((x y : X) → before x y ≡ after x y) → MatchOption o P (λ k. Earliest before xs k) → MatchOption o P (λ k. Earliest after xs k)
+earliest_by before after xs None P h e = e
+earliest_by {X} before after xs (Some k) P h e = subst (λ (b : X → X → Bool). Earliest b xs k) (λ i x y. h x y i) e

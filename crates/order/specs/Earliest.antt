@@ -2,15 +2,11 @@
 use Rattle.std.specs.Prelude.{◌≡◌, ℕ, ◌+◌, ◌<◌, Bool, true, false, cond, List, [], ◌∷◌, length, drop, Some, None, Option, slice_index_or}
 use Rattle.std.specs.declared.cmp.Ordering.{Ordering}
 use Rattle.std.specs.declared.cmp.Ordering.TheVariants.{Equal}
-use Rattle.std.specs.Ordering.{is_lt, nat_cmp, ordering_then}
+use Rattle.std.specs.Ordering.{is_lt}
 
 -- one record comes before another, by how records compare
 abbrev pub comes_before : {X : Type 0} → (X → X → Ordering) → X → X → Bool
 comes_before cmp x y = is_lt (cmp x y)
-
--- the same of records that stand at places: of equal ones the one at the lower place comes first
-abbrev pub stands_before : {X : Type 0} → (X → X → Ordering) → X → ℕ → X → ℕ → Bool
-stands_before cmp x j y k = is_lt (ordering_then (cmp x y) (nat_cmp j k))
 
 -- only records that are the same compare as equal
 abbrev pub TellsApart : {X : Type 0} → (X → X → Ordering) → Type 0

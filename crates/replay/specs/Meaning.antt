@@ -1,5 +1,5 @@
 -- A replay's meaning. Assumes nothing.
-use Rattle.std.specs.Prelude.{◌≡◌, ℕ, true, List, is_some, Some, None, Ok, Err, vec_items, Option, Result}
+use Rattle.std.specs.Prelude.{◌≡◌, ℕ, true, List, drop, is_some, Some, None, Ok, Err, vec_items, Option, Result}
 use Rattle.replay.specs.declared.recording.Fault.{Fault}
 use Rattle.replay.specs.declared.recording.Fault.TheVariants.{Malformed, Memory}
 use Rattle.host.specs.State.{State}
@@ -13,7 +13,7 @@ host_of r = state_of r.machine
 
 -- a replay at this moment
 abbrev pub rep_of : Replay → Rep
-rep_of r = record { host = state_of r.machine; left = vec_items r.endings }
+rep_of r = record { host = state_of r.machine; left = drop r.dropped (vec_items r.endings) }
 
 -- a replay begins afresh with all endings of a recording; one of another form is malformed
 abbrev pub Began : Result Replay Fault → Option (List ℕ) → Type 0

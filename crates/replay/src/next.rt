@@ -24,6 +24,7 @@ impl Replay {
         Ok(Replay {
             endings: Vec::from_slice(heap, endings)?,
             machine: Machine::new(heap, CAPACITY)?,
+            dropped: 0,
         })
     }
 
@@ -31,7 +32,7 @@ impl Replay {
     pub fn endings_left(&self) -> &[u8]
         ensures { result.now ≡ (rep_of self.now).left }
     {
-        &self.endings
+        &self.endings[self.dropped..]
     }
 
     // The place of the command that ends next.
@@ -63,16 +64,18 @@ impl Replay {
         ensures { result ≡ turn_of (rep_of self.now).left edge }
     {
         Turn {
-            place: self.next_ending(edge).unwrap_or(self.endings.len()),
+            place: self.next_ending(edge).unwrap_or(self.endings_left().len()),
             edge,
         }
     }
 
     // The place of the edge's next ending.
     fn next_ending(&self, edge: usize) -> Option<usize>
-        ensures { result ≡ position (λ e. e == edge) self.now.endings.items }
+        ensures { result ≡ position (λ e. e == edge) (rep_of self.now).left }
     {
-        self.endings.iter().position(|&e| usize::from(e) == edge)
+        self.endings_left()
+            .iter()
+            .position(|&e| usize::from(e) == edge)
     }
 
     // Drops the endings through the edge's next; none where it has none.
@@ -81,7 +84,7 @@ impl Replay {
         ensures left { (rep_of self.new).left ≡ left_after (rep_of self.old).left (next_from 0 (rep_of self.old).left edge) }
     {
         if let Some(place) = self.next_ending(edge) {
-            self.endings.drain(..=place);
+            self.dropped += place + 1;
         }
     }
 }

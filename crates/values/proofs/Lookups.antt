@@ -1,12 +1,12 @@
 -- A variable by its name: its place, its text, and the list after it is set.
-use Rattle.std.proofs.Common.{◌≡◌, ℕ, zero, suc, ◌+◌, ◌<◌, ◌≤◌, max, Bool, true, false, cond, List, [], ◌∷◌, ◌++◌, length, get_or, set, Some, None, Option, Bor, sym, refl, ap, ◌∙◌, zero-add, arith}
-use Rattle.std.specs.Option.{option_map, unwrap_or, MatchOption, IsSomeAnd, UnwrapsOrElse}
+use Rattle.std.proofs.Common.{◌≡◌, ℕ, zero, suc, ◌+◌, ◌<◌, ◌≤◌, max, Bool, true, false, cond, List, [], ◌∷◌, ◌++◌, length, get_or, set, Some, None, Option, Bor, sym, refl, zero-add, arith}
+use Rattle.std.specs.Option.{option_map, MatchOption, IsSomeAnd}
 use Rattle.std.specs.List.{find as first_that}
 use Rattle.cursor.specs.Told.{maybe}
 use Rattle.std.specs.Str.{bytes_eq}
 use Rattle.store.specs.declared.text.Variable.{Variable}
 use Rattle.store.specs.Held.{text_in, entry_in, entries_in, place_from_on, reach, furthest}
-use Rattle.values.specs.Expand.{find, or_else}
+use Rattle.values.specs.Expand.{find}
 use Rattle.std.proofs.lemmas.Bool.{lt-ltb, le-ltb}
 use Rattle.std.proofs.lemmas.List.{length-map}
 use Rattle.store.specs.declared.wrong.Wrong.TheVariants.{Limit}
@@ -81,28 +81,6 @@ pub found_text : (u : List ℕ) (vs : List Variable) (n : List ℕ) (P : Bor Var
 found_text u vs n P k None m h e = rw (h, find_is u vs n, ← e)
 found_text u vs n P k (Some x) None h e = absurd h
 found_text u vs n P k (Some x) (Some t) h e = rw (find_is u vs n, ← e, k x t h)
-
--- a search in one list after another
-pub find_after : (u : List ℕ) (xs ys : List Variable) (n : List ℕ) → find (entries_in u (xs ++ ys)) n ≡ or_else (find (entries_in u xs) n) (find (entries_in u ys) n)
-find_after u [] ys n = refl
-find_after u (x ∷ xs) ys n = at (bytes_eq x.name.now n) (find_after u xs ys n)
-  where
-    at : (t : Bool) → find (entries_in u (xs ++ ys)) n ≡ or_else (find (entries_in u xs) n) (find (entries_in u ys) n) → cond t (Some (text_in u x.value)) (find (entries_in u (xs ++ ys)) n) ≡ or_else (cond t (Some (text_in u x.value)) (find (entries_in u xs) n)) (find (entries_in u ys) n)
-    at true h = refl
-    at false h = h
-
-or_assoc : (x y z : Option (List ℕ)) → or_else (or_else x y) z ≡ or_else x (or_else y z)
-or_assoc None y z = refl
-or_assoc (Some t) y z = refl
-
--- a search in the three lists of a scope
-pub look_is : (u : List ℕ) (xs ys zs : List Variable) (n : List ℕ) → find (entries_in u ((xs ++ ys) ++ zs)) n ≡ or_else (find (entries_in u xs) n) (or_else (find (entries_in u ys) n) (find (entries_in u zs) n))
-look_is u xs ys zs n = find_after u (xs ++ ys) zs n ∙ ap (λ o. or_else o (find (entries_in u zs) n)) (find_after u xs ys n) ∙ or_assoc (find (entries_in u xs) n) (find (entries_in u ys) n) (find (entries_in u zs) n)
-
--- a text, or none at all
-pub or_empty : (a : Option (Bor (List ℕ))) (r : Bor (List ℕ)) (x : Option (List ℕ)) → maybe (λ t. t.now) a ≡ x → UnwrapsOrElse a (λ t. t.now ≡ []) r → r.now ≡ unwrap_or x []
-or_empty None r x e h = rw (← e) h
-or_empty (Some t) r x e h = rw (← e, h)
 
 pub set_furthest : (vs : List Variable) (v : Variable) (j : ℕ) → furthest (set vs j v) ≤ max (furthest vs) (reach v.value)
 set_furthest [] v j = omega arith

@@ -27,18 +27,14 @@ impl<'b> Names<'b> {
     pub fn look(self, name: &[u8]) -> &'b [u8]
         ensures { result.now ≡ look (scope_of self.entry) name.now }
     {
-        let Lists {
-            special,
-            block,
-            file,
-        } = self.lists;
-        special
-            .iter()
-            .chain(block)
-            .chain(file)
-            .find(|v| v.name == name)
-            .map(|v| self.store.text(v.value))
-            .unwrap_or_default()
+        // One list after another: a `chain` of the three asks at each variable in which list it is, and takes twice as long.
+        if let Some(text) = find(self.store, self.lists.special, name) {
+            return text;
+        }
+        if let Some(text) = find(self.store, self.lists.block, name) {
+            return text;
+        }
+        find(self.store, self.lists.file, name).unwrap_or_default()
     }
 }
 

@@ -1,9 +1,7 @@
 use Rattle.std.proofs.Common.{length, ap, arith}
 use Rattle.std.proofs.lemmas.Bool.Decides.{nat_tests}
 use Rattle.std.proofs.lemmas.Result.{err_from_is_err_and}
-use Rattle.values.specs.Expand.{look}
-use Rattle.values.specs.Scopes.{scope_of}
-use Rattle.values.proofs.Pieces.{step, broken, finished}
+use Rattle.values.proofs.Pieces.{step, broken}
 use Rattle.values.proofs.expand.expand_into.Goals as goal
 
 pub loop-rest-smaller : goal.loop-rest-smaller
