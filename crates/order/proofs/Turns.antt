@@ -42,13 +42,6 @@ module _ {X : Type 0} (before : X → X → Bool)
   pub itself : (x : X) → before x x ≡ false
   itself x = elim (cases_Bool (before x x)) [ inl a ↦ asym x x a | inr b ↦ b ]
 
-  -- before is transitive
-  chain : (x y z : X) → before x y ≡ true → before y z ≡ true → before x z ≡ true
-  chain x y z p q = elim (cases_Bool (before x z)) [
-    | inl a ↦ a
-    | inr b ↦ absurd (both_ways (before x y) (steps x z y b (asym y z q)) p)
-  ]
-
   -- what comes before x, which y does not come before, comes before y
   chain_not : (x y z : X) → before x y ≡ true → before z y ≡ false → before x z ≡ true
   chain_not x y z p q = elim (cases_Bool (before x z)) [

@@ -8,7 +8,7 @@ ghost use Rattle.values.specs.Scopes.{scope_of};
 ghost use Rattle.values.specs.Fills.{Fills};
 
 use crate::scan::split_run;
-use crate::scope::{Lists, Names};
+use crate::scope::Names;
 use byteclass::{is_name, is_simple};
 use store::calls::past;
 use store::{Stop, Store, Variable, Wrong};

@@ -1,7 +1,7 @@
 use Rattle.std.proofs.Common.{rules}
 use Rattle.std.proofs.lemmas.List.{take_rest}
 use Rattle.script.proofs.Parts.{first_word}
-use Rattle.script.proofs.lines.WordPart.first.Goals as goal
+use Rattle.script.proofs.lines.first_word.Goals as goal
 
 pub returns : goal.returns
 returns c =
